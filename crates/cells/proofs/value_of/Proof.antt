@@ -1,0 +1,51 @@
+-- `cells::value_of` meets its contract: the three cells lie within the slice. Assumes nothing.
+use borrow.Author.Needs.{needs}
+use Rattle.cells.specs.Cells.{valueAt}
+use Rattle.cells.proofs.value_of.Statement.{statement}
+use Rattle.cells.proofs.value_of.Tie as tie
+
+cell-of-requires : tie.Need-cell-of-requires
+cell-of-requires c κs = search needs
+
+cell-of-requires-2 : tie.Need-cell-of-requires-2
+cell-of-requires-2 c κs = search needs
+
+cell-of-requires-3 : tie.Need-cell-of-requires-3
+cell-of-requires-3 c κs = search needs
+
+mul-result : tie.Need-mul-result
+mul-result c = search needs
+
+shared-slice-read-result : tie.Need-shared-slice-read-result
+shared-slice-read-result c = search needs
+
+mul-result-2 : tie.Need-mul-result-2
+mul-result-2 c = search needs
+
+shared-slice-read-result-2 : tie.Need-shared-slice-read-result-2
+shared-slice-read-result-2 c = search needs
+
+mul-result-3 : tie.Need-mul-result-3
+mul-result-3 c = search needs
+
+shared-slice-read-result-3 : tie.Need-shared-slice-read-result-3
+shared-slice-read-result-3 c = search needs
+
+returns : tie.Need-returns
+unfolding valueAt
+returns c = cc
+
+pub value-of-spec : {M : Type 1} → statement M
+value-of-spec =
+    tie.close
+    (tie.spec
+    cell-of-requires
+    cell-of-requires-2
+    cell-of-requires-3
+    mul-result
+    shared-slice-read-result
+    mul-result-2
+    shared-slice-read-result-2
+    mul-result-3
+    shared-slice-read-result-3
+    returns)

@@ -1,0 +1,2 @@
+-- The definitions that the contracts of `cells` cite.
+pub mod Cells

@@ -1,0 +1,3 @@
+-- The laws of the definitions in specs/.
+pub mod Lists
+pub mod Delimiting

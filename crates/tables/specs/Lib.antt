@@ -1,0 +1,3 @@
+-- The definitions that the contracts of `tables` cite, in the order of document 01.
+pub mod Tables
+pub mod Delimiters

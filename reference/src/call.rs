@@ -1,0 +1,128 @@
+//! The call index: a planned key gets its row, any other key is absent.
+
+use crate::bits::{prefix_item, shared_bits};
+use crate::maps;
+use crate::refusal::{jam, judge_store, Refusal, BAD_BUCKET};
+use crate::table::{judge_count, judge_rising, MOST_KEYS};
+use std::ops::Range;
+
+fn is_bucket_size(bucket: usize) -> bool {
+    (2..=256).contains(&bucket)
+}
+
+/// k, the number of buckets.
+pub fn bucket_count(n: usize, bucket: usize) -> usize {
+    n.div_ceil(bucket)
+}
+
+pub fn bucket_rows(n: usize, bucket: usize, i: usize) -> Range<usize> {
+    i * bucket..n.min((i + 1) * bucket)
+}
+
+/// The view of bucket i as a part of the table.
+pub fn view(keys: &[u64], bucket: usize, i: usize) -> &[u64] {
+    let n = keys.len();
+    if n > MOST_KEYS || !is_bucket_size(bucket) || i >= bucket_count(n, bucket) {
+        return &[];
+    }
+    &keys[bucket_rows(n, bucket, i)]
+}
+
+/// How many leading bits the keys of a bucket share. One key alone counts 63, so that its prefix has room for the mark.
+pub fn bucket_length(keys: &[u64]) -> u32 {
+    if keys.len() == 1 {
+        return 63;
+    }
+    keys.iter().map(|&key| shared_bits(keys[0], key)).min().unwrap()
+}
+
+/// The items and values of map 1.
+pub fn key_values(keys: &[u64], bucket: usize) -> Vec<(u64, u16)> {
+    let mut wanted = Vec::new();
+    for i in 0..bucket_count(keys.len(), bucket) {
+        let part = &keys[bucket_rows(keys.len(), bucket, i)];
+        let length = bucket_length(part) as u16;
+        for (offset, &key) in part.iter().enumerate() {
+            wanted.push((key, 256 * length + offset as u16));
+        }
+    }
+    wanted
+}
+
+/// The items and values of map 2.
+pub fn bucket_values(keys: &[u64], bucket: usize) -> Vec<(u64, u16)> {
+    let mut wanted = Vec::new();
+    for i in 0..bucket_count(keys.len(), bucket) {
+        let part = &keys[bucket_rows(keys.len(), bucket, i)];
+        wanted.push((prefix_item(part[0], bucket_length(part)), i as u16));
+    }
+    wanted
+}
+
+/// The named length of the call cells.
+pub fn cells_named(n: usize, bucket: usize) -> usize {
+    maps::cell_count(n) + maps::cell_count(bucket_count(n, bucket))
+}
+
+/// The named length of the call build's work.
+pub fn work_named(n: usize) -> usize {
+    2 * maps::cell_count(n) + 2 * n
+}
+
+fn judge_limits(keys: &[u64], bucket: usize) -> Result<(), Refusal> {
+    judge_count(keys)?;
+    if is_bucket_size(bucket) {
+        Ok(())
+    } else {
+        Err(BAD_BUCKET)
+    }
+}
+
+/// Builds maps 1 and 2, each under its own seed.
+pub fn build(
+    keys: &[u64],
+    bucket: usize,
+    seeds: [u64; 2],
+    cells: &mut [u16],
+    work: &mut [u16],
+) -> Result<(), Refusal> {
+    judge_limits(keys, bucket)?;
+    judge_rising(keys)?;
+    let n = keys.len();
+    let named = cells_named(n, bucket);
+    judge_store(1, cells, named)?;
+    judge_store(5, work, work_named(n))?;
+
+    // A jam leaves all stores 0, and work is 0 after acceptance too. This program needs no work of its own.
+    cells[..named].fill(0);
+    work[..work_named(n)].fill(0);
+    let first = maps::fill(&key_values(keys, bucket), seeds[0]).map_err(|_| jam(1))?;
+    let second = maps::fill(&bucket_values(keys, bucket), seeds[1]).map_err(|_| jam(2))?;
+    cells[..first.len()].copy_from_slice(&first);
+    cells[first.len()..named].copy_from_slice(&second);
+    Ok(())
+}
+
+/// The row of x, or none where x is absent.
+pub fn ask(
+    keys: &[u64],
+    bucket: usize,
+    seeds: [u64; 2],
+    cells: &[u16],
+    x: u64,
+) -> Result<Option<usize>, Refusal> {
+    judge_limits(keys, bucket)?;
+    let n = keys.len();
+    judge_store(1, cells, cells_named(n, bucket))?;
+
+    let value = usize::from(maps::lookup(x, seeds[0], n, cells));
+    let (length, offset) = (value / 256, value % 256);
+    if length > 63 {
+        return Ok(None);
+    }
+    let second = &cells[maps::cell_count(n)..];
+    let item = prefix_item(x, length as u32);
+    let i = usize::from(maps::lookup(item, seeds[1], bucket_count(n, bucket), second));
+    let row = i * bucket + offset;
+    Ok(if row < n && keys[row] == x { Some(row) } else { None })
+}

@@ -1,0 +1,202 @@
+//! The neighbour index: how many table keys are smaller than any key.
+
+use crate::bits::{agree, bit, prefix_item, shared_bits, two_fattest};
+use crate::maps;
+use crate::refusal::{jam, judge_store, Refusal, SPOILED_BOUNDS};
+use crate::table::{judge_count, judge_rising};
+use std::ops::Range;
+
+/// How many leading bits rows m − 1 and m share.
+pub fn len(keys: &[u64], m: usize) -> u32 {
+    shared_bits(keys[m - 1], keys[m])
+}
+
+/// The rows left(m) up to, not including, right(m): all rows with the first len(m) bits of key m.
+pub fn rows(keys: &[u64], m: usize) -> Range<usize> {
+    let length = len(keys, m);
+    let inside = |key: &u64| agree(*key, keys[m], length);
+    let left = keys.iter().position(inside).unwrap();
+    let right = keys.iter().rposition(inside).unwrap() + 1;
+    left..right
+}
+
+/// The split with the smallest len, for two keys or more.
+pub fn root(keys: &[u64]) -> usize {
+    (1..keys.len()).min_by_key(|&m| len(keys, m)).unwrap()
+}
+
+/// q, the length of the parent of a split other than the root, from the split's rows.
+pub fn parent_length(keys: &[u64], rows: &Range<usize>) -> u32 {
+    let mut lengths = Vec::new();
+    if rows.start > 0 {
+        lengths.push(len(keys, rows.start));
+    }
+    if rows.end < keys.len() {
+        lengths.push(len(keys, rows.end));
+    }
+    lengths.into_iter().max().unwrap()
+}
+
+/// f, the length of the handle of split m, which is not the root and has these rows.
+pub fn handle_length(keys: &[u64], m: usize, rows: &Range<usize>) -> u32 {
+    two_fattest(parent_length(keys, rows) + 1, len(keys, m))
+}
+
+/// What the stores are to hold: the items of map 3 with their values, and all entries of left and right.
+pub struct Wanted {
+    pub handles: Vec<(u64, u16)>,
+    pub left: Vec<u16>,
+    pub right: Vec<u16>,
+}
+
+pub fn wanted(keys: &[u64]) -> Wanted {
+    let n = keys.len();
+    let mut wanted = Wanted { handles: Vec::new(), left: vec![0; n], right: vec![0; n] };
+    if n < 2 {
+        return wanted;
+    }
+    let root = root(keys);
+    wanted.left[0] = root as u16;
+    for m in 1..n {
+        let rows = rows(keys, m);
+        wanted.left[m] = rows.start as u16;
+        wanted.right[m] = rows.end as u16;
+        if m != root {
+            let f = handle_length(keys, m, &rows);
+            wanted.handles.push((prefix_item(keys[m], f), m as u16));
+        }
+    }
+    wanted
+}
+
+/// The memory lent to a build; an ask reads all of it but work.
+#[derive(Clone, Debug, PartialEq, Eq)]
+pub struct Stores {
+    pub handles: Vec<u16>,
+    pub left: Vec<u16>,
+    pub right: Vec<u16>,
+    pub work: Vec<u16>,
+}
+
+/// t, the number of handles.
+pub fn handle_count(n: usize) -> usize {
+    n.saturating_sub(2)
+}
+
+/// The named length of the handle cells.
+pub fn handles_named(n: usize) -> usize {
+    maps::cell_count(handle_count(n))
+}
+
+/// The named length of the neighbour build's work.
+pub fn work_named(n: usize) -> usize {
+    2 * handles_named(n) + 2 * handle_count(n)
+}
+
+impl Stores {
+    /// Stores of just the named lengths, all 0.
+    pub fn for_keys(n: usize) -> Stores {
+        Stores {
+            handles: vec![0; handles_named(n)],
+            left: vec![0; n],
+            right: vec![0; n],
+            work: vec![0; work_named(n)],
+        }
+    }
+
+    fn judge_read(&self, n: usize) -> Result<(), Refusal> {
+        judge_store(2, &self.handles, handles_named(n))?;
+        judge_store(3, &self.left, n)?;
+        judge_store(4, &self.right, n)
+    }
+}
+
+pub fn build(keys: &[u64], seed: u64, stores: &mut Stores) -> Result<(), Refusal> {
+    judge_count(keys)?;
+    judge_rising(keys)?;
+    let n = keys.len();
+    stores.judge_read(n)?;
+    judge_store(5, &stores.work, work_named(n))?;
+
+    // A jam leaves all stores 0, and work is 0 after acceptance too. This program needs no work of its own.
+    stores.handles[..handles_named(n)].fill(0);
+    stores.left[..n].fill(0);
+    stores.right[..n].fill(0);
+    stores.work[..work_named(n)].fill(0);
+    let wanted = wanted(keys);
+    let handles = maps::fill(&wanted.handles, seed).map_err(|_| jam(3))?;
+    stores.handles[..handles.len()].copy_from_slice(&handles);
+    stores.left[..n].copy_from_slice(&wanted.left);
+    stores.right[..n].copy_from_slice(&wanted.right);
+    Ok(())
+}
+
+#[derive(Clone, Debug, PartialEq, Eq)]
+pub struct Answer {
+    pub before: usize,
+    /// The lengths that were probed, in order; the probe count is their number.
+    pub probed: Vec<u32>,
+    pub stands: bool,
+}
+
+fn answer(keys: &[u64], x: u64, before: usize, probed: Vec<u32>) -> Answer {
+    let stands = before < keys.len() && keys[before] == x;
+    Answer { before, probed, stands }
+}
+
+/// The walk.
+pub fn ask(keys: &[u64], seed: u64, stores: &Stores, x: u64) -> Result<Answer, Refusal> {
+    judge_count(keys)?;
+    let n = keys.len();
+    stores.judge_read(n)?;
+
+    if n == 0 {
+        return Ok(answer(keys, x, 0, Vec::new()));
+    }
+    if n == 1 {
+        let before = if x <= keys[0] { 0 } else { 1 };
+        return Ok(answer(keys, x, before, Vec::new()));
+    }
+
+    let root = usize::from(stores.left[0]);
+    if root < 1 || root >= n || len(keys, root) > 63 {
+        return Err(SPOILED_BOUNDS);
+    }
+    if !agree(x, keys[root], len(keys, root)) {
+        let before = if x <= keys[root] { 0 } else { n };
+        return Ok(answer(keys, x, before, Vec::new()));
+    }
+
+    let mut lower = len(keys, root);
+    let mut upper = 64;
+    let mut node = root;
+    let mut probed = Vec::new();
+    while lower + 1 < upper {
+        let f = two_fattest(lower + 1, upper - 1);
+        probed.push(f);
+        let item = prefix_item(x, f);
+        let m = usize::from(maps::lookup(item, seed, handle_count(n), &stores.handles));
+        let accepted = 1 <= m && m < n && {
+            let length = len(keys, m);
+            f <= length && length < upper && agree(x, keys[m], length)
+        };
+        if accepted {
+            node = m;
+            lower = len(keys, m);
+        } else {
+            upper = f;
+        }
+    }
+
+    let (a, m, b) = (usize::from(stores.left[node]), node, usize::from(stores.right[node]));
+    if !(a < m && m < b && b <= n) {
+        return Err(SPOILED_BOUNDS);
+    }
+    // The exit bit alone does not decide: x may lie on either side of the node's keys.
+    let before = if !bit(x, lower) {
+        if x <= keys[a] { a } else { m }
+    } else {
+        if x <= keys[m] { m } else { b }
+    };
+    Ok(answer(keys, x, before, probed))
+}

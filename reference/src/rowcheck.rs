@@ -1,0 +1,126 @@
+//! The program `rowcheck`: text in, text out.
+
+use crate::refusal::{Refusal, BAD_TEXT};
+use crate::{call, neighbour};
+use std::fmt::Write;
+
+pub const SEEDS: u64 = 256;
+
+pub struct Input {
+    pub bucket: usize,
+    pub keys: Vec<u64>,
+    pub asks: Vec<u64>,
+}
+
+/// A decimal number without leading zeros, at most `largest`.
+fn decimal(text: &[u8], largest: usize) -> Option<usize> {
+    if text.is_empty() || (text[0] == b'0' && text.len() > 1) {
+        return None;
+    }
+    let mut value = 0;
+    for &byte in text {
+        if !byte.is_ascii_digit() {
+            return None;
+        }
+        value = 10 * value + usize::from(byte - b'0');
+        // Stopping here keeps a very long number from wrapping.
+        if value > largest {
+            return None;
+        }
+    }
+    Some(value)
+}
+
+/// Exactly 16 lower-case hexadecimal digits.
+fn hex(text: &[u8]) -> Option<u64> {
+    if text.len() != 16 {
+        return None;
+    }
+    let mut value = 0;
+    for &byte in text {
+        let digit = match byte {
+            b'0'..=b'9' => byte - b'0',
+            b'a'..=b'f' => byte - b'a' + 10,
+            _ => return None,
+        };
+        value = 16 * value + u64::from(digit);
+    }
+    Some(value)
+}
+
+fn parse_lines<'a>(mut lines: impl Iterator<Item = &'a [u8]>) -> Option<Input> {
+    let mut after = |label: &str| lines.next()?.strip_prefix(label.as_bytes());
+    let bucket = decimal(after("bucket=")?, 65_535)?;
+    let key_count = decimal(after("keys=")?, 2_048)?;
+    let mut keys = Vec::new();
+    for _ in 0..key_count {
+        keys.push(hex(after("key=")?)?);
+    }
+    let ask_count = decimal(after("asks=")?, 512)?;
+    let mut asks = Vec::new();
+    for _ in 0..ask_count {
+        asks.push(hex(after("ask=")?)?);
+    }
+    match lines.next() {
+        None => Some(Input { bucket, keys, asks }),
+        Some(_) => None,
+    }
+}
+
+pub fn parse(text: &[u8]) -> Result<Input, Refusal> {
+    // Every line has a line feed of its own, so the text without its last one splits into just the lines.
+    let body = text.strip_suffix(b"\n").ok_or(BAD_TEXT)?;
+    parse_lines(body.split(|&byte| byte == b'\n')).ok_or(BAD_TEXT)
+}
+
+pub struct Built {
+    pub seed: u64,
+    pub cells: Vec<u16>,
+    pub stores: neighbour::Stores,
+}
+
+/// Both indexes under one seed for all maps.
+pub fn build_with(keys: &[u64], bucket: usize, seed: u64) -> Result<Built, Refusal> {
+    let n = keys.len();
+    // A bucket size that the build refuses has no named length, so any store will do for it.
+    let mut cells = vec![0; if bucket == 0 { 0 } else { call::cells_named(n, bucket) }];
+    let mut work = vec![0; call::work_named(n)];
+    call::build(keys, bucket, [seed, seed], &mut cells, &mut work)?;
+    let mut stores = neighbour::Stores::for_keys(n);
+    neighbour::build(keys, seed, &mut stores)?;
+    Ok(Built { seed, cells, stores })
+}
+
+/// Both indexes under the first seed that both builds take.
+pub fn build(keys: &[u64], bucket: usize) -> Result<Built, Refusal> {
+    let mut last = build_with(keys, bucket, 0);
+    for seed in 1..SEEDS {
+        // Only a jam depends on the seed.
+        if !matches!(last, Err(Refusal { number: 5, .. })) {
+            break;
+        }
+        last = build_with(keys, bucket, seed);
+    }
+    last
+}
+
+fn answers(input: &Input) -> Result<String, Refusal> {
+    let (keys, bucket) = (&input.keys, input.bucket);
+    let built = build(keys, bucket)?;
+    let mut text = format!("keys={}\n", keys.len());
+    for &x in &input.asks {
+        let row = call::ask(keys, bucket, [built.seed, built.seed], &built.cells, x)?;
+        let near = neighbour::ask(keys, built.seed, &built.stores, x)?;
+        let row = row.map_or("none".to_string(), |row| row.to_string());
+        let (before, probes) = (near.before, near.probed.len());
+        write!(text, "ask={x:016x}\ncall={row}\nbefore={before}\nprobes={probes}\n").unwrap();
+    }
+    Ok(text)
+}
+
+pub fn run(text: &[u8]) -> String {
+    match parse(text).and_then(|input| answers(&input)) {
+        Ok(text) => text,
+        Err(refusal) => format!("refused={}\n", refusal.number),
+    }
+}
