@@ -6,6 +6,7 @@ ghost use mathlib.Core.Path.{_≡_};
 ghost use Prim.Native.Nat.{_*_, _≤_, _<_};
 ghost use lib.ListN.{length};
 ghost use Rattle.cells.specs.Cells.{segment, cellCount, cellOf, Segment, valueAt, mapValue};
+ghost use Rattle.cells.specs.Memory.{cleared};
 
 // M, the cells of one of the three segments of a map of t items.
 pub fn segment_size(t: usize) -> usize
@@ -48,4 +49,16 @@ pub fn look_up(cells: &[u16], t: usize, seed: u64, item: u64) -> u16
     ensures { λ r. ⌜ r ≡ mapValue (now (cells .entry)) t seed item ⌝ }
 {
     value_of(cells, segment_size(t), words::hash::item_hash(item, seed))
+}
+
+// The first m entries become 0, and the rest stays: what a named length is left with.
+pub fn clear(s: &mut [u16], m: usize)
+    requires { ⌜ m ≤ length (now s) ⌝ }
+    ensures { λ _. ⌜ now (s .exit) ≡ cleared m (now (s .entry)) ⌝ }
+{
+    let mut i = 0;
+    while i < m {
+        s[i] = 0;
+        i += 1;
+    }
 }
