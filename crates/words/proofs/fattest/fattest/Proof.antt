@@ -34,16 +34,24 @@ loop-less c = omega (arith, pow-pos (c .before .loop .inv .0))
 loop-again : tie.Need-loop-again Inv-loop μ-loop
 loop-again c = let i = c .before .loop .inv in halved (i .0) (c .before .before .pre .0) (i .1) (c .loop-test .taken)
 
-div-result : tie.Need-div-result Inv-loop μ-loop
-div-result c = omega (arith, pow-pos (c .before .loop .inv .0))
-
-mul-result : tie.Need-mul-result Inv-loop μ-loop
-mul-result c = omega (arith, div-mul-le-self (c .before .before .args .b) (c .before .loop .p))
-
 returns : tie.Need-returns Inv-loop μ-loop
-returns c = let i = c .before .loop .inv in
-    rw (i .1) (fattest-at (c .before .before .args .a) (c .before .before .args .b) (i .0) (rw (i .1) at (c .loop-test .left)) (i .2))
+returns c =
+    let i = c .before .loop .inv in
+    let a = c .before .before .args .a in
+    let b = c .before .before .args .b in
+    rw (← i .1) at (fattest-at a b (i .0) (rw (i .1) at (c .loop-test .left)) (i .2))
 
 pub fattest-spec : {M : Type 1} → statement M
 fattest-spec =
-    tie.close (tie.spec Inv-loop μ-loop loop-holds div-loop mul-loop loop-less loop-again div-result mul-result returns)
+    tie.close
+    (tie.spec
+    Inv-loop
+    μ-loop
+    loop-holds
+    div-loop
+    mul-loop
+    loop-less
+    loop-again
+    (λ c. omega (arith, pow-pos (c .before .loop .inv .0)))
+    (λ c. omega (arith, div-mul-le-self (c .before .before .args .b) (c .before .loop .p)))
+    returns)
