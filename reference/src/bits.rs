@@ -19,13 +19,13 @@ pub fn agree(a: u64, b: u64, length: u32) -> bool {
     length == 0 || (a >> (64 - length)) == (b >> (64 - length))
 }
 
-/// The item of a prefix: its `length` bits, then a 1, then zeros. There is room for 63 bits at most.
+/// The item of a prefix: its `length` bits, 63 at most, then a 1, then zeros.
 pub fn prefix_item(x: u64, length: u32) -> u64 {
     let after_mark = 63 - length;
     ((x >> after_mark) | 1) << after_mark
 }
 
-/// The number from `low` to `high` that is divisible by the highest power of two. `low` is at least 1.
+/// The number from `low`, at least 1, to `high` that is divisible by the highest power of two.
 pub fn two_fattest(low: u32, high: u32) -> u32 {
     for power in (0..32).rev() {
         for number in low..=high {

@@ -28,7 +28,8 @@ pub fn view(keys: &[u64], bucket: usize, i: usize) -> &[u64] {
     &keys[bucket_rows(n, bucket, i)]
 }
 
-/// How many leading bits the keys of a bucket share. One key alone counts 63, so that its prefix has room for the mark.
+/// How many leading bits the keys of a bucket share.
+/// One key alone counts 63, so that its prefix has room for the mark.
 pub fn bucket_length(keys: &[u64]) -> u32 {
     if keys.len() == 1 {
         return 63;
@@ -93,7 +94,7 @@ pub fn build(
     judge_store(1, cells, named)?;
     judge_store(5, work, work_named(n))?;
 
-    // A jam leaves all stores 0, and work is 0 after acceptance too. This program needs no work of its own.
+    // A jam leaves all stores 0, and work is 0 after acceptance too; nothing here needs work.
     cells[..named].fill(0);
     work[..work_named(n)].fill(0);
     let first = maps::fill(&key_values(keys, bucket), seeds[0]).map_err(|_| jam(1))?;

@@ -20,9 +20,9 @@ pub fn touched(item: u64, seed: u64, t: usize) -> [usize; 3] {
     [place(h), m + place(h >> 21), 2 * m + place(h >> 42)]
 }
 
-/// What is left of a set of items once those that alone touch a cell have been removed, over and over.
+/// The end of removing items that alone touch a cell, until there are none.
 pub struct Peeling {
-    /// The removed items in order, each with a cell that it alone touched among those not yet removed.
+    /// The removed items in order, each with a cell that no other item still there touched.
     pub removed: Vec<(usize, usize)>,
     /// The items that stay. They are the largest jam, as an item of a jam is never removed.
     pub jam: Vec<usize>,
@@ -82,11 +82,10 @@ pub fn fill(wanted: &[(u64, u16)], seed: u64) -> Result<Vec<u16>, Vec<usize>> {
     if !peeling.jam.is_empty() {
         return Err(peeling.jam);
     }
-    // The cell of an item removed early is touched by no item removed later, so it is free when its turn comes.
+    // No item removed later touches this one's free cell, so it is still 0 and free to be set.
     let mut cells = vec![0; cell_count(items.len())];
     for &(item, free) in peeling.removed.iter().rev() {
         let [a, b, c] = triples[item];
-        cells[free] = 0;
         cells[free] = wanted[item].1 ^ cells[a] ^ cells[b] ^ cells[c];
     }
     Ok(cells)

@@ -42,7 +42,7 @@ pub fn handle_length(keys: &[u64], m: usize, rows: &Range<usize>) -> u32 {
     two_fattest(parent_length(keys, rows) + 1, len(keys, m))
 }
 
-/// What the stores are to hold: the items of map 3 with their values, and all entries of left and right.
+/// What the stores are to hold: the items of map 3 with their values, and `left` and `right`.
 pub struct Wanted {
     pub handles: Vec<(u64, u16)>,
     pub left: Vec<u16>,
@@ -118,7 +118,7 @@ pub fn build(keys: &[u64], seed: u64, stores: &mut Stores) -> Result<(), Refusal
     stores.judge_read(n)?;
     judge_store(5, &stores.work, work_named(n))?;
 
-    // A jam leaves all stores 0, and work is 0 after acceptance too. This program needs no work of its own.
+    // A jam leaves all stores 0, and work is 0 after acceptance too; nothing here needs work.
     stores.handles[..handles_named(n)].fill(0);
     stores.left[..n].fill(0);
     stores.right[..n].fill(0);
@@ -194,9 +194,17 @@ pub fn ask(keys: &[u64], seed: u64, stores: &Stores, x: u64) -> Result<Answer, R
     }
     // The exit bit alone does not decide: x may lie on either side of the node's keys.
     let before = if !bit(x, lower) {
-        if x <= keys[a] { a } else { m }
+        if x <= keys[a] {
+            a
+        } else {
+            m
+        }
     } else {
-        if x <= keys[m] { m } else { b }
+        if x <= keys[m] {
+            m
+        } else {
+            b
+        }
     };
     Ok(answer(keys, x, before, probed))
 }

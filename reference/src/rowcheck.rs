@@ -4,7 +4,7 @@ use crate::refusal::{Refusal, BAD_TEXT};
 use crate::{call, neighbour};
 use std::fmt::Write;
 
-pub const SEEDS: u64 = 256;
+const SEEDS: u64 = 256;
 
 pub struct Input {
     pub bucket: usize,
@@ -68,7 +68,7 @@ fn parse_lines<'a>(mut lines: impl Iterator<Item = &'a [u8]>) -> Option<Input> {
 }
 
 pub fn parse(text: &[u8]) -> Result<Input, Refusal> {
-    // Every line has a line feed of its own, so the text without its last one splits into just the lines.
+    // Every line has a line feed of its own, so without the last one the text splits into lines.
     let body = text.strip_suffix(b"\n").ok_or(BAD_TEXT)?;
     parse_lines(body.split(|&byte| byte == b'\n')).ok_or(BAD_TEXT)
 }

@@ -156,7 +156,7 @@ fn mapvectors() -> String {
     text
 }
 
-/// Each key with the keys below and above it, in row order, and at last the smallest and largest of all.
+/// Each key with the keys below and above it, in row order, and at last the two ends.
 fn asks(keys: &[u64]) -> Vec<u64> {
     let mut asks = Vec::new();
     for &key in keys {
@@ -171,7 +171,7 @@ fn refusal_code(refusal: Refusal) -> u64 {
 }
 
 fn call_digest(keys: &[u64], bucket: usize, seed: u64, cells: &[u16]) -> String {
-    let mut digest = 0u64;
+    let mut digest = 1u64;
     let mut found = 0;
     for x in asks(keys) {
         let code = match call::ask(keys, bucket, [seed, seed], cells, x) {
@@ -232,7 +232,7 @@ fn callvectors_of(text: &mut String, name: &str, n: usize, bucket: usize) {
 }
 
 fn neighbour_digest(keys: &[u64], seed: u64, stores: &neighbour::Stores) -> String {
-    let mut digest = 0u64;
+    let mut digest = 1u64;
     let mut sum = 0;
     let mut most = 0;
     for x in asks(keys) {
@@ -288,7 +288,7 @@ fn neighbourvectors_of(text: &mut String, name: &str, n: usize) {
         right: wanted.right,
         work: Vec::new(),
     };
-    for rule in ["handles", "root", "left", "right", "all"] {
+    for rule in ["handles", "root", "left", "right", "over", "all"] {
         let mut stores = true_bounds.clone();
         match rule {
             "root" if n > 0 => stores.left[0] = n as u16,
@@ -300,6 +300,7 @@ fn neighbourvectors_of(text: &mut String, name: &str, n: usize) {
                 stores.right.truncate(1);
                 stores.right.extend(numbers(1, n, 13, size + 2));
             }
+            "over" if n > 0 => stores.right[1..].fill(n as u16 + 1),
             "all" => {
                 stores.left = numbers(0, n, 17, size + 2).collect();
                 stores.right = numbers(0, n, 17, size + 2).collect();
