@@ -1,15 +1,15 @@
 -- The laws of `delimiters`. Assumes nothing.
-use mathlib.Core.Path.{_≡_, refl, sym, ap, _∙_}
+use mathlib.Core.Path.{_≡_, ap, _∙_}
 use mathlib.Core.List.{List}
-use Prim.Native.Nat.{ℕ, zero, suc, _+_, _-_, _*_, _/_, _^_, _≤_, _<_, min}
-use native.Mathlib.Nat.{le-refl, le-of-lt, le-div-iff-mul-le, suc-mul, le-mul-of-pos-right, mul-one, div-one, add-zero, min-eq-left, min-eq-right}
+use Prim.Native.Nat.{ℕ, suc, _+_, _-_, _*_, _/_, _^_, _≤_, _<_}
+use native.Mathlib.Nat.{le-div-iff-mul-le, suc-mul, le-mul-of-pos-right, mul-one, div-one, add-zero}
 use native.Mathlib.Numerals.{add-one}
-use native.Mathlib.Decide.{decLe, le-ind}
 use native.Mathlib.Omega.{arith}
-use lib.ListN.{length, getD}
-use Rattle.tables.specs.Tables.{keyAt, Table, listed}
+use lib.ListN.{length}
+use Rattle.tables.specs.Tables.{keyAt, Table}
 use Rattle.tables.specs.Delimiters.{buckets, bucketEnd, delimiters}
 use Rattle.tables.proofs.Lists.{length-listed, listed-at, listed-self}
+use Rattle.tables.proofs.Rising.{keys-rise}
 
 -- a bucket that is there begins inside the table
 pub bucket-begins : (n b i : ℕ) → 1 ≤ b → i < buckets n b → i * b < n
@@ -48,9 +48,6 @@ module _ (b : ℕ) (T : List ℕ) where
   pub delimiters-table : 1 ≤ b → Table T → Table (delimiters b T)
   delimiters-table hb t = record { fits = fits; rises = rises }
     where
-      up : (i j : ℕ) → i ≤ j → j < length T → keyAt T i ≤ keyAt T j
-      up i j h = le-ind (λ (k : ℕ). k < length T → keyAt T i ≤ keyAt T k) (λ l. le-refl _) (λ k g ih l. omega (arith, ih (omega arith), t .rises k l)) j h
-
       fits : (i : ℕ) → i < length (delimiters b T) → keyAt (delimiters b T) i < 2 ^ 64
       fits i h =
           let l : i < buckets (length T) b = rw length-delimiters at h in
@@ -67,7 +64,7 @@ module _ (b : ℕ) (T : List ℕ) where
           let a = bucketEnd (length T) b i - 1 in
           let c = bucketEnd (length T) b (suc i) - 1 in
           let low = t .rises a (omega arith) in
-          let high = up (suc a) c (omega arith) (omega arith) in
+          let high = keys-rise T t (suc a) c (omega arith) (omega arith) in
           rw (delimiter-is i k, delimiter-is (suc i) l) (omega arith)
 
 -- with buckets of one row they are the table itself

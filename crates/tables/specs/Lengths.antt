@@ -1,0 +1,49 @@
+-- Document 01, "Refusal numbers and their order": the named lengths of the lent stores, for n keys and bucket size b.
+use mathlib.Core.Bool.{cond}
+use Prim.Native.Nat.{ℕ, _+_, _-_, _*_}
+use lib.Dec.{ltb}
+use Rattle.refusals.specs.Numbers.{number, names}
+use Rattle.cells.specs.Cells.{cellCount}
+use Rattle.tables.specs.Tables.{mostKeys}
+use Rattle.tables.specs.Delimiters.{buckets}
+use Rattle.tables.specs.declared.lengths.Lend.{Lend}
+use Rattle.tables.specs.declared.lengths.Lend.the-variants.{Lengths, Refused}
+
+-- t: the handles of n keys, none if n < 2
+abbrev pub handles : ℕ → ℕ
+handles n = n - 2
+
+-- C(n) + C(k) call cells
+abbrev pub callCells : ℕ → ℕ → ℕ
+callCells n b = cellCount n + cellCount (buckets n b)
+
+-- C(t) handle cells
+abbrev pub handleCells : ℕ → ℕ
+handleCells n = cellCount (handles n)
+
+-- 2 × C(n) + 2 × n numbers of work for the call build
+abbrev pub callWork : ℕ → ℕ
+callWork n = 2 * cellCount n + 2 * n
+
+-- 2 × C(t) + 2 × t numbers of work for the neighbour build
+abbrev pub neighbourWork : ℕ → ℕ
+neighbourWork n = 2 * cellCount (handles n) + 2 * handles n
+
+-- what a caller is told: call cells, handle cells, left, right, work of the call build, work of the neighbour build;
+-- or a refusal's number and what it names
+pub data Told : Type 0 where
+  lengths : ℕ → ℕ → ℕ → ℕ → ℕ → ℕ → Told
+  refused : ℕ → ℕ → Told
+
+-- the answer in document 01's numbers
+abbrev pub told : Lend → Told
+told (Lengths l) = lengths (l .«call_cells») (l .«handle_cells») (l .left) (l .right) (l .«call_work») (l .«neighbour_work»)
+told (Refused r) = refused (number r) (names r)
+
+-- refusal 1 for more than 32,768 keys, then 2 for a bucket size outside 2 to 256, then the lengths
+unfoldable pub namedLengths : ℕ → ℕ → Told
+namedLengths n b =
+    cond (ltb mostKeys n) (refused 1 0)
+    (cond (ltb b 2) (refused 2 0)
+    (cond (ltb 256 b) (refused 2 0)
+    (lengths (callCells n b) (handleCells n) n n (callWork n) (neighbourWork n))))
