@@ -1,0 +1,74 @@
+-- `splits::bounds::build_bounds` meets its contract: the two passes write the splits' entries, and entry 0 comes last. Assumes nothing.
+use mathlib.Core.Path.{sym, _∙_}
+use native.Mathlib.Omega.{arith}
+use lib.ListN.{length}
+use Rattle.tables.specs.Delimiters.{delimiters}
+use Rattle.splits.specs.Splits.{leftEntry, rightEntry}
+use Rattle.splits.proofs.Parents.{left-root, right-root}
+use Rattle.splits.proofs.Stores.{wrote-first, wrote-nothing}
+use borrow.Author.Needs.{needs}
+use Rattle.splits.proofs.bounds.build_bounds.Statement.{statement}
+use Rattle.splits.proofs.bounds.build_bounds.Tie as tie
+
+delimiter-count-requires : tie.Need-delimiter-count-requires
+delimiter-count-requires c κs = search needs
+
+returns : tie.Need-returns
+returns c =
+    let a = c .before .before .before .before .before .args in
+    let T = delimiters (a .b) (a .keys .now) in
+    (wrote-nothing (length T) (leftEntry T) (a .left .now) (omega arith), wrote-nothing (length T) (rightEntry T) (a .right .now) (omega arith))
+
+fill-left-requires : tie.Need-fill-left-requires
+fill-left-requires c κs = search needs
+
+fill-right-requires : tie.Need-fill-right-requires
+fill-right-requires c κs = search needs
+
+root-of-requires : tie.Need-root-of-requires
+root-of-requires c κs = search needs
+
+cast-left : tie.Need-cast-left
+cast-left c = search needs
+
+slice-write-left : tie.Need-slice-write-left
+slice-write-left c = search needs
+
+slice-write-right : tie.Need-slice-write-right
+slice-write-right c = search needs
+
+same-length : tie.Need-same-length
+same-length c = search needs
+
+same-length-2 : tie.Need-same-length-2
+same-length-2 c = search needs
+
+returns-2 : tie.Need-returns-2
+returns-2 c =
+    let p = c .before .before .before .before .before .before .before .before .before .before in
+    let a = p .before .before .before .before .args in
+    let T = delimiters (a .b) (a .keys .now) in
+    let n = p .delimiter-count in
+    let l = c .before .before .before .before .before .before .before .fill-left in
+    let r = c .before .before .before .fill-right in (
+      wrote-first (n .result) (length T) (leftEntry T) (a .left .now) (l .last .1 .1 .1 .0) (c .root-of .result) (n .ensures .0) (omega arith) (omega arith)
+          (l .kept .1 .1 .1 .0) (c .root-of .ensures .0 ∙ sym (left-root T)) (l .ensures),
+      wrote-first (n .result) (length T) (rightEntry T) (a .right .now) (r .last .1 .1 .1 .0) 0 (n .ensures .0) (omega arith) (omega arith)
+          (r .kept .1 .1 .1 .0) (sym (right-root T)) (r .ensures),
+    )
+
+pub build-bounds-spec : {M : Type 1} → statement M
+build-bounds-spec =
+    tie.close
+    (tie.spec
+    delimiter-count-requires
+    returns
+    fill-left-requires
+    fill-right-requires
+    root-of-requires
+    cast-left
+    slice-write-left
+    slice-write-right
+    same-length
+    same-length-2
+    returns-2)

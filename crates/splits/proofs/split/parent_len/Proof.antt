@@ -1,0 +1,42 @@
+-- `splits::split::parent_len` meets its contract. Assumes nothing.
+use Rattle.tables.specs.Delimiters.{delimiters}
+use Rattle.splits.proofs.Parents.{parent-by}
+use borrow.Author.Needs.{needs}
+use Rattle.splits.proofs.split.parent_len.Statement.{statement}
+use Rattle.splits.proofs.split.parent_len.Tie as tie
+
+delimiter-count-requires : tie.Need-delimiter-count-requires
+delimiter-count-requires c κs = search needs
+
+entry-at-requires : tie.Need-entry-at-requires
+entry-at-requires c κs = search needs
+
+entry-at-requires-2 : tie.Need-entry-at-requires-2
+entry-at-requires-2 c κs = search needs
+
+len-or-zero-requires : tie.Need-len-or-zero-requires
+len-or-zero-requires c κs = search needs
+
+len-or-zero-requires-2 : tie.Need-len-or-zero-requires-2
+len-or-zero-requires-2 c κs = search needs
+
+larger-requires : tie.Need-larger-requires
+larger-requires c κs = search needs
+
+returns : tie.Need-returns
+returns c =
+    let s = c .before .before .before .before .before .before .before .before .before in
+    let split = s .pre .rising .split in
+    cc (parent-by (delimiters (s .args .b) (s .args .keys .now)) (s .pre .rising .table) (s .args .m) (split .pos) (split .small))
+
+pub parent-len-spec : {M : Type 1} → statement M
+parent-len-spec =
+    tie.close
+    (tie.spec
+    delimiter-count-requires
+    entry-at-requires
+    entry-at-requires-2
+    len-or-zero-requires
+    len-or-zero-requires-2
+    larger-requires
+    returns)

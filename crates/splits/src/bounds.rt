@@ -1,0 +1,123 @@
+// The stores `left` and `right`: the rows of each split, by jumping over the rows of longer splits, and the root.
+ghost use mathlib.Core.Path.{_≡_};
+ghost use Prim.Native.Nat.{_+_, _-_, _≤_, _<_};
+ghost use lib.ListN.{length};
+ghost use Rattle.tables.specs.Tables.{Table};
+ghost use Rattle.tables.specs.Delimiters.{delimiters, Bucketed};
+ghost use Rattle.splits.specs.Splits.{root, smallerOf, leftEntry, rightEntry, leftStore, rightStore};
+ghost use Rattle.splits.specs.Inner.{SplitOf, Counted, Rising, Holds, Roomy, goesOn, Wrote};
+use crate::split::entry_at;
+use crate::split::len_at;
+use tables::delimiter::delimiter_count;
+
+// Whether row j is a split with a string of l bits or more, which lies within the rows of a split beside it whose string has l bits.
+fn inside(keys: &[u64], b: usize, n: usize, j: usize, l: u32) -> bool
+    requires { ⌜ Counted b (now keys) n ⌝ }
+    ensures { λ r. ⌜ r ≡ goesOn (delimiters b (now (keys .entry))) j l ⌝ }
+{
+    if j < 1 {
+        return false;
+    }
+    if j >= n {
+        return false;
+    }
+    l <= len_at(keys, b, j)
+}
+
+// The first row of split m, by the first rows of the splits before it.
+fn jump_left(keys: &[u64], b: usize, n: usize, left: &[u16], m: usize) -> usize
+    requires { ⌜ Rising b (now keys) m × Counted b (now keys) n × Holds (leftEntry (delimiters b (now keys))) 1 m (now left) ⌝ }
+    ensures { λ r. ⌜ (r ≡ leftEntry (delimiters b (now (keys .entry))) m) × (r < m) ⌝ }
+{
+    let l = len_at(keys, b, m);
+    let mut j = m - 1;
+    while inside(keys, b, n, j, l) {
+        j = entry_at(left, j);
+    }
+    j
+}
+
+// The row after the last of split m, by those of the splits after it.
+fn jump_right(keys: &[u64], b: usize, n: usize, right: &[u16], m: usize) -> usize
+    requires { ⌜ Rising b (now keys) m × Counted b (now keys) n × Holds (rightEntry (delimiters b (now keys))) (m + 1) n (now right) ⌝ }
+    ensures { λ r. ⌜ (r ≡ rightEntry (delimiters b (now (keys .entry))) m) × (r ≤ n) ⌝ }
+{
+    let l = len_at(keys, b, m);
+    let mut j = m + 1;
+    while inside(keys, b, n, j, l) {
+        j = entry_at(right, j);
+    }
+    j
+}
+
+// The first rows of the splits, from the first split to the last.
+fn fill_left(keys: &[u64], b: usize, n: usize, left: &mut [u16])
+    requires { ⌜ Table (delimiters b (now keys)) × Counted b (now keys) n × (0 < n) × (n ≤ 32768) × (n ≤ length (now left)) ⌝ }
+    ensures { λ _. ⌜ Wrote 1 n (leftEntry (delimiters b (now (keys .entry)))) (now (left .entry)) (now (left .exit)) ⌝ }
+{
+    let mut m = 1;
+    while m < n {
+        let j = jump_left(keys, b, n, left, m);
+        left[m] = j as u16;
+        m += 1;
+    }
+}
+
+// The rows after the last ones, from the last split to the first.
+fn fill_right(keys: &[u64], b: usize, n: usize, right: &mut [u16])
+    requires { ⌜ Table (delimiters b (now keys)) × Counted b (now keys) n × (0 < n) × (n ≤ 32768) × (n ≤ length (now right)) ⌝ }
+    ensures { λ _. ⌜ Wrote 1 n (rightEntry (delimiters b (now (keys .entry)))) (now (right .entry)) (now (right .exit)) ⌝ }
+{
+    let mut m = n;
+    while m > 1 {
+        m -= 1;
+        let j = jump_right(keys, b, n, right, m);
+        right[m] = j as u16;
+    }
+}
+
+// Of r, 0 for none, and a later split m the one with the smaller len.
+fn smaller_of(keys: &[u64], b: usize, r: usize, m: usize) -> usize
+    requires { ⌜ SplitOf b (now keys) m × (r < m) ⌝ }
+    ensures { λ k. ⌜ (k ≡ smallerOf (delimiters b (now (keys .entry))) r m) × (k ≤ m) ⌝ }
+{
+    if r == 0 {
+        return m;
+    }
+    if len_at(keys, b, m) < len_at(keys, b, r) {
+        return m;
+    }
+    r
+}
+
+// The root split: 0 for fewer than two keys.
+pub fn root_of(keys: &[u64], b: usize) -> usize
+    requires { ⌜ Bucketed b (now keys) ⌝ }
+    ensures { λ r. ⌜ (r ≡ root (delimiters b (now (keys .entry)))) × (r ≤ length (delimiters b (now (keys .entry))) - 1) ⌝ }
+{
+    let n = delimiter_count(keys, b);
+    let mut r = 0;
+    let mut m = 1;
+    while m < n {
+        r = smaller_of(keys, b, r, m);
+        m += 1;
+    }
+    r
+}
+
+// Fills `left` and `right`: an entry for each row, and nothing beyond.
+pub fn build_bounds(keys: &[u64], b: usize, left: &mut [u16], right: &mut [u16])
+    requires { ⌜ Roomy b (now keys) (now left) (now right) ⌝ }
+    ensures left_is { λ _. ⌜ now (left .exit) ≡ leftStore (delimiters b (now (keys .entry))) (now (left .entry)) ⌝ }
+    ensures right_is { λ _. ⌜ now (right .exit) ≡ rightStore (delimiters b (now (keys .entry))) (now (right .entry)) ⌝ }
+{
+    let n = delimiter_count(keys, b);
+    if n == 0 {
+        return;
+    }
+    fill_left(keys, b, n, left);
+    fill_right(keys, b, n, right);
+    let r = root_of(keys, b);
+    left[0] = r as u16;
+    right[0] = 0;
+}
