@@ -1,0 +1,3 @@
+-- The laws of the definitions in specs/.
+--   Sweeping: memory that is cleared again
+pub mod Sweeping
