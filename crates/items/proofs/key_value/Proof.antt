@@ -1,0 +1,51 @@
+-- `items::key_value` meets its contract: the row's bucket is there, and its length and the offset fit a byte each. Assumes nothing.
+use Prim.Native.Nat.{_%_, _<_}
+use native.Mathlib.Omega.{arith}
+use borrow.Author.Needs.{needs}
+use Rattle.items.proofs.Values.{sorted-bucketed, row-bucket, offset-small, key-value-small}
+use Rattle.items.proofs.key_value.Statement.{statement}
+use Rattle.items.proofs.key_value.Tie as tie
+
+offset : (c : tie.After-bucket-length) → let a = c .before .before .args in a .r % a .b < 256
+offset c = let s = c .before .before in offset-small (s .args .b) (s .args .keys .now) (s .pre .0) (s .args .r) (s .pre .1)
+
+div-bucket-length : tie.Need-div-bucket-length
+div-bucket-length c = search needs
+
+bucket-length-requires : tie.Need-bucket-length-requires
+bucket-length-requires c κs =
+    let s = c .before in
+    (s .pre .0 .table, sorted-bucketed (s .pre .0), row-bucket (s .args .b) (s .args .keys .now) (s .pre .0) (s .args .r) (s .pre .1))
+
+rem-offset : tie.Need-rem-offset
+rem-offset c = search needs
+
+cast-offset : tie.Need-cast-offset
+cast-offset c = omega (arith, offset c)
+
+mul-result : tie.Need-mul-result
+mul-result c = search needs
+
+add-result : tie.Need-add-result
+add-result c = omega (arith, offset c)
+
+cast-result : tie.Need-cast-result
+cast-result c =
+    let s = c .before .before in
+    omega (arith, key-value-small (s .args .b) (s .args .keys .now) (s .pre .0) (s .args .r) (s .pre .1))
+
+returns : tie.Need-returns
+returns c = search needs
+
+pub key-value-spec : {M : Type 1} → statement M
+key-value-spec =
+    tie.close
+    (tie.spec
+    div-bucket-length
+    bucket-length-requires
+    rem-offset
+    cast-offset
+    mul-result
+    add-result
+    cast-result
+    returns)

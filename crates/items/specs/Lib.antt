@@ -1,0 +1,2 @@
+-- The definitions that the contracts of `items` cite.
+pub mod Items
