@@ -1,4 +1,4 @@
--- The laws of handles as items: where the stores hold the bounds, entry 0 of `left` leads to the split of each item. Assumes nothing.
+-- What stands at each number of map 3, and that the stores, where they hold the bounds, lead to the split of each item. Assumes nothing.
 use mathlib.Core.Path.{_≡_}
 use mathlib.Core.List.{List}
 use Prim.Native.Nat.{ℕ, _+_, _-_, _≤_, _<_}

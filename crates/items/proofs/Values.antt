@@ -1,4 +1,4 @@
--- The laws of values: each item has one, it has 16 bits, and the value of a key tells its bucket's length and its offset there. Assumes nothing.
+-- What stands at each number of maps 1 and 2, and that the value of a key and the prefix of its bucket lead back to its row. Assumes nothing.
 use mathlib.Core.Path.{_≡_}
 use mathlib.Core.List.{List}
 use Prim.Native.Nat.{ℕ, _+_, _*_, _/_, _%_, _≤_, _<_}
@@ -18,6 +18,7 @@ use Rattle.items.specs.Items.{keyValues, prefixItems, bucketNumbers, Sor
 pub row-is : (b r : ℕ) → r / b * b + r % b ≡ r
 row-is b r = div-add-mod' r b
 
+-- buckets of two rows or more can be counted
 pub sorted-bucketed : {b : ℕ} {T : List ℕ} → Sorted b T → Bucketed b T
 sorted-bucketed s = record { some = omega arith; most = s .most; rows = s .few }
 
@@ -70,6 +71,7 @@ module _ (b : ℕ) (T : List ℕ) where
     pub value-offset : getD (keyValues b T) r 0 % 256 ≡ r % b
     value-offset = rw (key-value-is r h) (omega (arith, offset-small))
 
+    -- it fits 16 bits
     pub key-value-small : 256 * bucketLength b T (r / b) + r % b < 65536
     key-value-small = omega (arith, offset-small, bits-small)
 
