@@ -61,7 +61,7 @@ module _ (b : ℕ) (T : List ℕ) where
     pub offset-small : r % b < 256
     offset-small = omega (arith, mod-lt r {m = b} (omega arith))
 
-    bits-small : bucketLength b T (r / b) ≤ 63
+    pub bits-small : bucketLength b T (r / b) ≤ 63
     bits-small = length-small T (s .table) b (r / b) (omega arith) row-bucket
 
     -- the value of a key tells its bucket's length and its offset
