@@ -1,0 +1,34 @@
+-- Memory cleared over its first m entries, entry by entry.
+-- Assumes nothing.
+use mathlib.Core.Path.{_≡_, refl, sym, ap, _∙_}
+use mathlib.Core.List.{List, _++_}
+use Prim.Native.Nat.{ℕ, _+_, _-_, _≤_, _<_}
+use native.Mathlib.Omega.{arith}
+use lib.ListN.{length, getD, drop, replicate, length-replicate, length-drop, getD-replicate, List·getD-append}
+use lib.Seq.{getD-drop, drop-at, ext-getD}
+use Rattle.cells.specs.Memory.{cleared}
+use Rattle.maps.specs.Inner.Work.{Beyond}
+
+pub cleared-zeros : (m : ℕ) (xs ys : List ℕ) → ys ≡ cleared m xs → (k : ℕ) → k < m → getD ys k 0 ≡ 0
+cleared-zeros m xs ys e k l =
+    ap (λ (zs : List ℕ). getD zs k 0) e ∙ List·getD-append (replicate m 0) (drop m xs) 0 k (simp length-replicate l) ∙ getD-replicate m k 0 0 l
+
+pub drop-cleared : (m : ℕ) (xs : List ℕ) → drop m (cleared m xs) ≡ drop m xs
+drop-cleared m xs = drop-at (replicate m 0) (drop m xs) m (length-replicate m 0)
+
+-- equal from m on, entry by entry
+pub drop-getD : (m : ℕ) (a b : List ℕ) → drop m a ≡ drop m b → Beyond m b a
+drop-getD m a b e k l =
+    let q : m + (k - m) ≡ k = omega arith in
+    ap (λ (x : ℕ). getD a x 0) (sym q) ∙ sym (getD-drop m a (k - m) 0) ∙ ap (λ (l : List ℕ). getD l (k - m) 0) e ∙ getD-drop m b (k - m) 0
+    ∙ ap (λ (x : ℕ). getD b x 0) q
+
+pub cleared-beyond : (m : ℕ) (xs ys : List ℕ) → ys ≡ cleared m xs → Beyond m xs ys
+cleared-beyond m xs ys e = drop-getD m ys xs (ap (drop m) e ∙ drop-cleared m xs)
+
+pub drop-same : (m : ℕ) (a b : List ℕ) → length b ≡ length a → Beyond m a b → drop m b ≡ drop m a
+drop-same m a b l B =
+    ext-getD 0 (drop m b) (drop m a) (simp length-drop (ap (λ (n : ℕ). n - m) l)) (λ i h. getD-drop m b i 0 ∙ B (m + i) (omega arith) ∙ sym (getD-drop m a i 0))
+
+pub cleared-same : (m : ℕ) (a b : List ℕ) → length b ≡ length a → Beyond m a b → cleared m b ≡ cleared m a
+cleared-same m a b l B = ap (λ (xs : List ℕ). replicate m 0 ++ xs) (drop-same m a b l B)

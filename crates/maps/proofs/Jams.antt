@@ -1,0 +1,128 @@
+-- Jams and peeling.
+--     closed-jam       a set that is not empty, and of which no cell is touched by exactly one, is a jam
+--     jam-has-none-peeled     who is in a jam was not peeled
+--     all-peeled       all are peeled: there is no jam
+--     rest-largest     not all are, and no cell is touched by exactly one of those left: they are the largest jam
+-- Assumes nothing.
+use mathlib.Core.Path.{_≡_, refl, sym, ap, ap₂, _∙_}
+use mathlib.Core.Bool.{Bool, true, false, _&&_, _||_, not, or-true, and-eq-true-iff}
+use mathlib.Core.Logic.{_⊎_, inl, inr, ⊎-elim}
+use Prim.Native.Nat.{ℕ, zero, suc, _+_, _≤_, _<_}
+use native.Mathlib.Omega.{arith}
+use borrow.Author.Tests.{eq-eqb, ne-eqb, eqb-true, eqb-false, not-true}
+use lib.Dec.{eqb}
+use Rattle.maps.specs.Jam.{Touches, Jam, NoJam, Largest, sizeOf}
+use Rattle.maps.specs.Inner.Peel.{touchb, live, Peeling, still}
+use Rattle.maps.proofs.Sets.{size-zero, size-some, size-other, clash, true-or-false, last-or-below}
+
+pub and-left : (a b : Bool) → a && b ≡ true → a ≡ true
+and-left a b h = and-eq-true-iff a b .0 h .0
+
+pub and-right : (a b : Bool) → a && b ≡ true → b ≡ true
+and-right a b h = and-eq-true-iff a b .0 h .1
+
+pub and-both : {a b : Bool} → a ≡ true → b ≡ true → a && b ≡ true
+and-both p q = ap₂ _&&_ p q
+
+or-cases : (a b : Bool) → a || b ≡ true → (a ≡ true) ⊎ (b ≡ true)
+or-cases true b e = inl refl
+or-cases false b e = inr e
+
+pub touched : (e : ℕ → ℕ → ℕ) (i c : ℕ) → touchb e i c ≡ true → Touches e i c
+unfolding touchb
+touched e i c h =
+    ⊎-elim (λ (a : eqb (e 0 i) c ≡ true). inl (eqb-true (e 0 i) c a))
+    (λ (b : eqb (e 1 i) c || eqb (e 2 i) c ≡ true).
+    inr
+    (⊎-elim (λ (a : eqb (e 1 i) c ≡ true). inl (eqb-true (e 1 i) c a)) (λ (a : eqb (e 2 i) c ≡ true). inr (eqb-true (e 2 i) c a))
+    (or-cases (eqb (e 1 i) c) (eqb (e 2 i) c) b)))
+    (or-cases (eqb (e 0 i) c) (eqb (e 1 i) c || eqb (e 2 i) c) h)
+
+pub touches : (e : ℕ → ℕ → ℕ) (i c : ℕ) → Touches e i c → touchb e i c ≡ true
+unfolding touchb
+touches e i c (inl a) = rw (eq-eqb (e 0 i) c a)
+touches e i c (inr (inl a)) = rw (eq-eqb (e 1 i) c a, or-true (eqb (e 0 i) c))
+touches e i c (inr (inr a)) = rw (eq-eqb (e 2 i) c a, or-true (eqb (e 1 i) c), or-true (eqb (e 0 i) c))
+
+pub closed-jam : (e : ℕ → ℕ → ℕ) (t : ℕ) (s : ℕ → Bool)
+    → ((c : ℕ) → sizeOf (λ i. s i && touchb e i c) t ≡ 1 → ⊥)
+    → (i : ℕ) × (i < t) × (s i ≡ true)
+    → Jam e t s
+closed-jam e t s no-one some =
+    record {
+      some = some;
+      twice = λ i c l h w.
+          let o : (j : ℕ) × (j < t) × (s j && touchb e j c ≡ true) × (j ≡ i → ⊥) = size-other (λ k. s k && touchb e k c) t i (no-one c) l (and-both h (touches e i c w)) in
+          (o .0, o .1, and-left (s (o .0)) (touchb e (o .0) c) (o .2), touched e (o .0) c (and-right (s (o .0)) (touchb e (o .0) c) (o .2)), o .3);
+    }
+
+-- who is left was peeled at no turn
+pub live-not : (st : ℕ → ℕ) (n i : ℕ) → live st n i ≡ true → (p : ℕ) → p < n → st p ≡ i → ⊥
+unfolding live
+live-not st zero i h p l e = omega arith
+live-not st (suc n) i h p l e =
+    ⊎-elim
+    (λ (q : p ≡ n). eqb-false (st n) i (not-true (eqb (st n) i) (and-right (live st n i) (not (eqb (st n) i)) h)) (ap st (sym q) ∙ e))
+    (λ (m : p < n). live-not st n i (and-left (live st n i) (not (eqb (st n) i)) h) p m e)
+    (last-or-below l)
+
+-- who was peeled at no turn is left
+pub live-all : (st : ℕ → ℕ) (n i : ℕ) → ((p : ℕ) → p < n → st p ≡ i → ⊥) → live st n i ≡ true
+unfolding live
+live-all st zero i h = refl
+live-all st (suc n) i h = and-both (live-all st n i (λ p l. h p (omega arith))) (ap not (ne-eqb (st n) i (h n (omega arith))))
+
+-- who is not left was peeled at some turn
+pub live-out : (st : ℕ → ℕ) (n i : ℕ) → live st n i ≡ false → (p : ℕ) × (p < n) × (st p ≡ i)
+unfolding live
+live-out st zero i h = absurd (clash refl h)
+live-out st (suc n) i h =
+    ⊎-elim
+    (λ (e : eqb (st n) i ≡ true). (n, omega arith, eqb-true (st n) i e))
+    (λ (e : eqb (st n) i ≡ false).
+    ⊎-elim
+    (λ (a : live st n i ≡ true). absurd (clash (and-both a (ap not e)) h))
+    (λ (a : live st n i ≡ false).
+    let r : (p : ℕ) × (p < n) × (st p ≡ i) = live-out st n i a in
+    (r .0, omega arith, r .2))
+    (true-or-false (live st n i)))
+    (true-or-false (eqb (st n) i))
+
+pub live-ext : (st st′ : ℕ → ℕ) (n i : ℕ) → ((p : ℕ) → p < n → st p ≡ st′ p) → live st n i ≡ live st′ n i
+unfolding live
+live-ext st st′ zero i h = refl
+live-ext st st′ (suc n) i h =
+    ap₂ (λ (a : Bool) (x : ℕ). a && not (eqb x i)) (live-ext st st′ n i (λ p l. h p (omega arith))) (h n (omega arith))
+
+-- who is left after more turns is left after fewer
+pub live-le : (st : ℕ → ℕ) (m n i : ℕ) → m ≤ n → live st n i ≡ true → live st m i ≡ true
+live-le st m n i l h = live-all st m i (λ p k. live-not st n i h p (omega arith))
+
+module _ (e : ℕ → ℕ → ℕ) (t : ℕ) (st at : ℕ → ℕ) (n : ℕ) (P : Peeling e t st at n) where
+  -- the first peeled item of a jam had another of the jam beside it, which was peeled earlier
+  no-first : (s : ℕ → Bool) → Jam e t s → (m p : ℕ) → p < m → p < n → s (st p) ≡ true → ⊥
+  no-first s J zero p l k h = omega arith
+  no-first s J (suc m) p l k h =
+      let o : (j : ℕ) × (j < t) × (s j ≡ true) × Touches e j (at p) × (j ≡ st p → ⊥) = J .twice (st p) (at p) (P .small p k) h (P .here p k) in
+      ⊎-elim
+      (λ (a : live st p (o .0) ≡ true). o .4 (P .alone p k (o .0) (o .1) a (o .3)))
+      (λ (a : live st p (o .0) ≡ false).
+      let r : (q : ℕ) × (q < p) × (st q ≡ o .0) = live-out st p (o .0) a in
+      no-first s J m (r .0) (omega arith) (omega arith) (ap s (r .2) ∙ o .2))
+      (true-or-false (live st p (o .0)))
+
+  pub jam-has-none-peeled : (s : ℕ → Bool) → Jam e t s → (i : ℕ) → s i ≡ true → live st n i ≡ true
+  jam-has-none-peeled s J i h = live-all st n i (λ p l q. no-first s J (suc p) p (omega arith) l (ap s q ∙ h))
+
+  pub none-left : n ≡ t → (i : ℕ) → i < t → live st n i ≡ false
+  none-left q i l = size-zero (live st n) t (omega (arith, P .left)) i l
+
+  pub all-peeled : n ≡ t → NoJam e t
+  all-peeled q s J = clash (jam-has-none-peeled s J (J .some .0) (J .some .2)) (none-left q (J .some .0) (J .some .1))
+
+  pub rest-largest : (n ≡ t → ⊥) → ((c : ℕ) → sizeOf (still e st n c) t ≡ 1 → ⊥) → Largest e t (live st n)
+  rest-largest q h =
+      record {
+        jam = closed-jam e t (live st n) h (size-some (live st n) t (λ z. q (omega (arith, P .left))));
+        all = λ s J i l k. jam-has-none-peeled s J i k;
+      }

@@ -1,0 +1,40 @@
+-- `maps::count::put_in` meets its contract: the two stores, at the cell and at its xor, are those of the law `put-at`. Assumes nothing.
+use mathlib.Core.Path.{refl}
+use Prim.Native.Nat.{_+_, _-_}
+use native.Mathlib.Omega.{arith}
+use denote.Ref.{now}
+use lib.ListN.{getD, length-set}
+use Rattle.maps.proofs.Puts.{put-at}
+use borrow.Author.Needs.{needs}
+use Rattle.maps.proofs.count.put_in.Statement.{statement}
+use Rattle.maps.proofs.count.put_in.Tie as tie
+use Rattle.maps.proofs.count.put_in.Reads as reads
+use Rattle.maps.proofs.count.put_in.Lts as lts
+
+slice-read-work-2 : tie.Need-slice-read-work-2
+slice-read-work-2 c = simp length-set (omega arith)
+
+slice-write-work-2 : tie.Need-slice-write-work-2
+slice-write-work-2 c = simp length-set (omega arith)
+
+returns : tie.Need-returns
+returns c =
+    let a = c .before .before .args in
+    put-at (now (a .work)) (a .cap) (a .c) (getD (now (a .work)) (a .c) 0 + 1) (a .i) (omega arith) (omega arith) refl
+
+pub put-in-spec : {M : Type 1} → statement M
+put-in-spec =
+    tie.close
+    (tie.spec
+    (λ c. search needs)
+    (λ c. search needs)
+    (λ c. search needs)
+    (λ c. search needs)
+    (λ c. search needs)
+    (λ c. search needs)
+    (λ c. search needs)
+    slice-read-work-2
+    (λ c. search needs)
+    slice-write-work-2
+    (λ c. search needs)
+    returns)

@@ -1,0 +1,40 @@
+-- `maps::count::take_out` meets its contract: the two stores, at the cell and at its xor, are those of the law `take-at`. Assumes nothing.
+use mathlib.Core.Path.{refl}
+use Prim.Native.Nat.{_+_, _-_}
+use native.Mathlib.Omega.{arith}
+use denote.Ref.{now}
+use lib.ListN.{getD, length-set}
+use Rattle.maps.proofs.Puts.{take-at}
+use borrow.Author.Needs.{needs}
+use Rattle.maps.proofs.count.take_out.Statement.{statement}
+use Rattle.maps.proofs.count.take_out.Tie as tie
+use Rattle.maps.proofs.count.take_out.Reads as reads
+use Rattle.maps.proofs.count.take_out.Lts as lts
+
+slice-read-work-2 : tie.Need-slice-read-work-2
+slice-read-work-2 c = simp length-set (omega arith)
+
+slice-write-work-2 : tie.Need-slice-write-work-2
+slice-write-work-2 c = simp length-set (omega arith)
+
+returns : tie.Need-returns
+returns c =
+    let a = c .before .before .args in
+    take-at (now (a .work)) (a .cap) (a .c) (getD (now (a .work)) (a .c) 0 - 1) (a .i) (omega arith) (omega arith) (omega arith)
+
+pub take-out-spec : {M : Type 1} → statement M
+take-out-spec =
+    tie.close
+    (tie.spec
+    (λ c. search needs)
+    (λ c. search needs)
+    (λ c. search needs)
+    (λ c. search needs)
+    (λ c. search needs)
+    (λ c. search needs)
+    (λ c. search needs)
+    slice-read-work-2
+    (λ c. search needs)
+    slice-write-work-2
+    (λ c. search needs)
+    returns)

@@ -1,0 +1,15 @@
+// Static maps (document 01, "Static maps"): the build of one map from its items to their values, under one seed.
+//
+// Every function is proved and the crate assumes nothing. `build` asks for items that can be read and for memory of the named
+// lengths, which its callers have tested.
+mod count;
+mod peel;
+use items::Items;
+
+// A map that is being built: its items, their seed, the size m of its segments and the number t of its items.
+pub struct Map {
+    pub which: Items,
+    pub seed: u64,
+    pub m: usize,
+    pub t: usize,
+}
