@@ -16,10 +16,10 @@ use lib.Bits.{bitXor}
 use Rattle.words.proofs.Xor.{xor-sort}
 use Rattle.maps.specs.Jam.{Touches}
 use Rattle.maps.specs.Inner.Peel.{live, Peeling}
-use Rattle.maps.specs.Inner.Work.{Beyond}
+use Rattle.maps.specs.Inner.Work.{Beyond, Peeled, stOf, atOf}
 use Rattle.maps.specs.Inner.Fill.{valueOf, Valued, Clean, fix}
 use Rattle.maps.proofs.Jams.{live-le, live-not, live-out, none-left}
-use Rattle.maps.proofs.Puts.{Spread}
+use Rattle.maps.proofs.Puts.{Spread, touch-below}
 
 three : {a a′ b b′ c c′ : ℕ} → a ≡ a′ → b ≡ b′ → c ≡ c′ → bitXor (bitXor a b) c ≡ bitXor (bitXor a′ b′) c′
 three p q r = ap₂ bitXor (ap₂ bitXor p q) r
@@ -68,6 +68,24 @@ value-there e cells j c v h =
 abbrev pub FilledFrom : (ℕ → ℕ → ℕ) → (ℕ → ℕ) → ℕ → (ℕ → ℕ) → ℕ → List ℕ → Type 0
 FilledFrom e st n want p cells = (q : ℕ) → p ≤ q → q < n → valueOf e cells (st q) ≡ want (st q)
 
+-- i is the item of turn p, and c its cell
+pub record PeeledAt (e : ℕ → ℕ → ℕ) (t cap : ℕ) (w : List ℕ) (p i c : ℕ) : Type 0 where
+  pub item : i ≡ stOf cap w p
+  pub cell : c ≡ atOf cap t w p
+  pub small : i < t
+  pub below : c < cap
+
+pub peeled-at : (e : ℕ → ℕ → ℕ) (t cap : ℕ) (w : List ℕ) (n p x y : ℕ) → ((i : ℕ) → Spread e cap i) → Peeled e t cap w n → p < n → x ≡ cap + cap + p → y ≡ cap + cap + t + p
+    → PeeledAt e t cap w p (getD w x 0) (getD w y 0)
+peeled-at e t cap w n p x y S P l ex ey =
+    let o = P .order in
+    record {
+      item = rw ex;
+      cell = rw ey;
+      small = rw ex (o .small p l);
+      below = rw ey (touch-below (atOf cap t w p) (S (stOf cap w p)) (o .here p l));
+    }
+
 -- what the loop of `fill_all` keeps
 pub record Filling (e : ℕ → ℕ → ℕ) (t cap : ℕ) (st : ℕ → ℕ) (want : ℕ → ℕ) (p : ℕ) (before cells : List ℕ) : Type 0 where
   pub filled : FilledFrom e st t want p cells
@@ -75,9 +93,9 @@ pub record Filling (e : ℕ → ℕ → ℕ) (t cap : ℕ) (st : ℕ → ℕ) (w
   pub rest : Beyond cap before cells
 
 module _ (e : ℕ → ℕ → ℕ) (t cap : ℕ) (st at : ℕ → ℕ) (want : ℕ → ℕ) (before : List ℕ) (P : Peeling e t st at t) where
-  pub fill-none : ((k : ℕ) → k < cap → getD before k 0 ≡ 0) → Filling e t cap st want t before before
+  pub fill-none : (p : ℕ) → t ≤ p → ((k : ℕ) → k < cap → getD before k 0 ≡ 0) → Filling e t cap st want p before before
   unfolding Clean
-  fill-none h = record { filled = λ q l m. absurd (omega arith); clean = λ k l u. h k l; rest = λ k l. refl }
+  fill-none p m h = record { filled = λ q l n. absurd (omega arith); clean = λ k l u. h k l; rest = λ k l. refl }
 
   -- an item peeled later does not touch the cell of turn p
   later : (p q : ℕ) → p < q → q < t → Touches e (st q) (at p) → ⊥

@@ -172,8 +172,7 @@ pub size-other : (p : ℕ → Bool) (t i : ℕ) → (sizeOf p t ≡ 1 → ⊥) �
 size-other p t i h l e =
     let c : sizeOf p t ≡ moreIf (p i) (sizeOf (without p i) t) = size-less p (without p i) i t (p i) l (without-is p i) in
     let c′ : sizeOf p t ≡ suc (sizeOf (without p i) t) = rw e at c in
-    let r : (k : ℕ) × (k < t) × (without p i k ≡ true) = size-some (without p i) t (λ z. h (omega arith)) in
-    (
+    let r : (k : ℕ) × (k < t) × (without p i k ≡ true) = size-some (without p i) t (λ z. h (omega arith)) in (
       r .0,
       r .1,
       and-eq-true-iff (p (r .0)) (not (eqb i (r .0))) .0 (r .2) .0,

@@ -69,12 +69,8 @@ pub fn take_item(work: &mut [u16], m: usize, h: u64, i: u16)
 
 // Puts all items in, over work that is 0.
 pub fn count_all(map: Map, keys: &[u64], left: &[u16], right: &[u16], work: &mut [u16])
-    requires {
-        ⌜ Ready map (now keys) (now left) (now right) × (6 * map .m ≤ length (now work)) × ((k : ℕ) → k < 6 * map .m → getD (now work) k 0 ≡ 0) ⌝
-    }
-    ensures {
-        λ _. ⌜ Holds (map .t) (3 * map .m) (λ c i. touchb (graph map (now (keys .entry))) i c) (now (work .exit)) × Beyond (6 * map .m) (now (work .entry)) (now (work .exit)) ⌝
-    }
+    requires { ⌜ Ready map (now keys) (now left) (now right) × (6 * map .m ≤ length (now work)) × ((k : ℕ) → k < 6 * map .m → getD (now work) k 0 ≡ 0) ⌝ }
+    ensures { λ _. ⌜ Holds (map .t) (3 * map .m) (λ c i. touchb (graph map (now (keys .entry))) i c) (now (work .exit)) × Beyond (6 * map .m) (now (work .entry)) (now (work .exit)) ⌝ }
 {
     let m = map.m;
     let t = map.t;

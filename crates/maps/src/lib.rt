@@ -2,8 +2,11 @@
 //
 // Every function is proved and the crate assumes nothing. `build` asks for items that can be read and for memory of the named
 // lengths, which its callers have tested.
+pub mod build;
 mod count;
+mod fill;
 mod peel;
+
 use items::Items;
 
 // A map that is being built: its items, their seed, the size m of its segments and the number t of its items.

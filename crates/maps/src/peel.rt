@@ -10,7 +10,15 @@ use crate::Map;
 use crate::count;
 
 // Peels the one item that is left at cell c, at turn n.
-fn peel_at(map: Map, keys: &[u64], left: &[u16], right: &[u16], work: &mut [u16], n: usize, c: usize)
+fn peel_at(
+    map: Map,
+    keys: &[u64],
+    left: &[u16],
+    right: &[u16],
+    work: &mut [u16],
+    n: usize,
+    c: usize,
+)
     requires { ⌜ AtTurn map (now keys) (now left) (now right) (now work) n × (c < 3 * map .m) × (getD (now work) c 0 ≡ 1) ⌝ }
     ensures { λ _. ⌜ TriedAt map (now (keys .entry)) (λ k. c ≡ k) (now (work .entry)) n (now (work .exit)) (n + 1) ⌝ }
 {
@@ -22,11 +30,24 @@ fn peel_at(map: Map, keys: &[u64], left: &[u16], right: &[u16], work: &mut [u16]
     let i = work[a];
     work[x] = i;
     work[y] = c as u16;
-    count::take_item(work, m, count::hash_at(map, keys, left, right, i as usize), i);
+    count::take_item(
+        work,
+        m,
+        count::hash_at(map, keys, left, right, i as usize),
+        i,
+    );
 }
 
 // Peels the item at cell c where one is left there. The answer is how many are peeled.
-fn try_peel(map: Map, keys: &[u64], left: &[u16], right: &[u16], work: &mut [u16], n: usize, c: usize) -> usize
+fn try_peel(
+    map: Map,
+    keys: &[u64],
+    left: &[u16],
+    right: &[u16],
+    work: &mut [u16],
+    n: usize,
+    c: usize,
+) -> usize
     requires { ⌜ AtTurn map (now keys) (now left) (now right) (now work) n × (c < 3 * map .m) ⌝ }
     ensures { λ r. ⌜ TriedAt map (now (keys .entry)) (λ k. c ≡ k) (now (work .entry)) n (now (work .exit)) r ⌝ }
 {
@@ -54,7 +75,15 @@ fn scan(map: Map, keys: &[u64], left: &[u16], right: &[u16], work: &mut [u16]) -
 }
 
 // Tries the three cells of item i.
-fn try_three(map: Map, keys: &[u64], left: &[u16], right: &[u16], work: &mut [u16], n: usize, i: usize) -> usize
+fn try_three(
+    map: Map,
+    keys: &[u64],
+    left: &[u16],
+    right: &[u16],
+    work: &mut [u16],
+    n: usize,
+    i: usize,
+) -> usize
     requires { ⌜ AtTurn map (now keys) (now left) (now right) (now work) n × (i < map .t) ⌝ }
     ensures { λ r. ⌜ TriedAt map (now (keys .entry)) (Touches (graph map (now (keys .entry))) i) (now (work .entry)) n (now (work .exit)) r ⌝ }
 {
@@ -69,13 +98,16 @@ fn try_three(map: Map, keys: &[u64], left: &[u16], right: &[u16], work: &mut [u1
 }
 
 // Tries the cells of each peeled item in turn, those peeled on the way too. The answer is how many are peeled.
-fn chase(map: Map, keys: &[u64], left: &[u16], right: &[u16], work: &mut [u16], start: usize) -> usize
-    requires {
-        ⌜ AtTurn map (now keys) (now left) (now right) (now work) start × Queue (graph map (now keys)) (3 * map .m) (now work) 0 start ⌝
-    }
-    ensures {
-        λ r. ⌜ AtTurn map (now (keys .entry)) (now (left .entry)) (now (right .entry)) (now (work .exit)) r × Stuck (3 * map .m) (now (work .exit)) × Beyond (6 * map .m + 2 * map .t) (now (work .entry)) (now (work .exit)) ⌝
-    }
+fn chase(
+    map: Map,
+    keys: &[u64],
+    left: &[u16],
+    right: &[u16],
+    work: &mut [u16],
+    start: usize,
+) -> usize
+    requires { ⌜ AtTurn map (now keys) (now left) (now right) (now work) start × Queue (graph map (now keys)) (3 * map .m) (now work) 0 start ⌝ }
+    ensures { λ r. ⌜ AtTurn map (now (keys .entry)) (now (left .entry)) (now (right .entry)) (now (work .exit)) r × Stuck (3 * map .m) (now (work .exit)) × Beyond (6 * map .m + 2 * map .t) (now (work .entry)) (now (work .exit)) ⌝ }
 {
     let m = map.m;
     let mut n = start;
@@ -92,9 +124,7 @@ fn chase(map: Map, keys: &[u64], left: &[u16], right: &[u16], work: &mut [u16], 
 // Peels as many items as can be. The answer is how many are peeled.
 pub fn peel_all(map: Map, keys: &[u64], left: &[u16], right: &[u16], work: &mut [u16]) -> usize
     requires { ⌜ Ready map (now keys) (now left) (now right) × (6 * map .m + 2 * map .t ≤ length (now work)) ⌝ }
-    ensures {
-        λ r. ⌜ AtTurn map (now (keys .entry)) (now (left .entry)) (now (right .entry)) (now (work .exit)) r × Stuck (3 * map .m) (now (work .exit)) × Beyond (6 * map .m + 2 * map .t) (now (work .entry)) (now (work .exit)) ⌝
-    }
+    ensures { λ r. ⌜ AtTurn map (now (keys .entry)) (now (left .entry)) (now (right .entry)) (now (work .exit)) r × Stuck (3 * map .m) (now (work .exit)) × Beyond (6 * map .m + 2 * map .t) (now (work .entry)) (now (work .exit)) ⌝ }
 {
     let m = map.m;
     cells::clear(work, 6 * m);

@@ -63,8 +63,8 @@ pub record Tried (e : ℕ → ℕ → ℕ) (t cap : ℕ) (T : ℕ → Type 0) (a
   pub grows : n ≤ r
   pub kept : (p : ℕ) → p < n → stOf cap b p ≡ stOf cap a p
   pub others :
-    (k : ℕ) → k < cap → getD b k 0 ≡ 1
-    → ((getD a k 0 ≡ 1) × (T k → ⊥)) ⊎ ((p : ℕ) × (n ≤ p) × (p < r) × Touches e (stOf cap b p) k)
+      (k : ℕ) → k < cap → getD b k 0 ≡ 1
+      → ((getD a k 0 ≡ 1) × (T k → ⊥)) ⊎ ((p : ℕ) × (n ≤ p) × (p < r) × Touches e (stOf cap b p) k)
   pub beyond : Beyond (cap + cap + t + t) a b
 
 -- each cell with one item left is touched by an item peeled at turn q or later

@@ -54,8 +54,7 @@ chase-requires c κs =
     let p = c .before .before .before in
     let k = p .before .before .before .before in
     let s = start (counting k) in
-    let map = s .args .map in
-    (
+    let map = s .args .map in (
       next-turn (started k) (p .scan .kept .1 .1 .1 .1 .0) (p .scan .ensures .peeled),
       tried-queue (graph map (now (s .args .keys))) (map .t) (3 * map .m) (k .count-all .last .1 .1 .1 .1 .0) (p .scan .last .1 .1 .1 .1 .0) (p .scan .result) (p .scan .ensures),
     )
@@ -67,8 +66,7 @@ returns c =
     let k = p .before .before .before .before in
     let z = counting k in
     let s = start z in
-    let m = s .args .map .m in
-    (
+    let m = s .args .map .m in (
       q .chase .ensures .0,
       q .chase .ensures .1,
       λ i l. q .chase .ensures .2 i l ∙ p .scan .ensures .beyond i (omega arith) ∙ k .count-all .ensures .1 i (omega arith) ∙ cleared-beyond (6 * m) (now (s .args .work)) (z .clear .last .0) (z .clear .ensures) i (omega arith),

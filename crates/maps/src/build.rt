@@ -1,0 +1,33 @@
+// The build of one map.
+ghost use Rattle.items.specs.Items.{itemsOf, valuesOf, Known};
+ghost use Rattle.maps.specs.Built.{Room, Built};
+use crate::Map;
+use crate::fill;
+use crate::peel;
+use items::Items;
+
+// Builds the map from the items to their values under the seed. The answer is 0 where it is built, and where the items hold a jam
+// the size of the largest one.
+pub fn build(
+    which: Items,
+    seed: u64,
+    keys: &[u64],
+    left: &[u16],
+    right: &[u16],
+    cells: &mut [u16],
+    work: &mut [u16],
+) -> usize
+    requires { ⌜ Known which (now keys) (now left) (now right) × Room (itemsOf which (now keys)) (now cells) (now work) ⌝ }
+    ensures { λ r. ⌜ Built seed (itemsOf which (now (keys .entry))) (valuesOf which (now (keys .entry))) (now (cells .entry)) (now (work .entry)) r (now (cells .exit)) (now (work .exit)) ⌝ }
+{
+    let t = items::item_count(which, keys, left, right);
+    let m = cells::segment_size(t);
+    let map = Map { which, seed, m, t };
+    cells::clear(cells, 3 * m);
+    let n = peel::peel_all(map, keys, left, right, work);
+    if n == t {
+        fill::fill_all(map, keys, left, right, cells, work);
+    }
+    cells::clear(work, 6 * m + 2 * t);
+    t - n
+}

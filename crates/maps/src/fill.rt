@@ -1,0 +1,52 @@
+// Fills the cells once all items are peeled, the item peeled last first: an item's cell is touched by none that was peeled later.
+ghost use mathlib.Core.Path.{_≡_};
+ghost use Prim.Native.Nat.{ℕ, _+_, _*_, _<_, _≤_};
+ghost use lib.ListN.{length, getD, set};
+ghost use Rattle.maps.specs.Inner.Work.{Beyond};
+ghost use Rattle.maps.specs.Inner.Fill.{fix, Valued, Clean};
+ghost use Rattle.maps.specs.Inner.Ready.{graph, wanted, Ready, AtTurn};
+use crate::Map;
+use crate::count;
+
+// Gives item i its value by a store at cell c.
+fn fix_one(
+    map: Map,
+    keys: &[u64],
+    left: &[u16],
+    right: &[u16],
+    cells: &mut [u16],
+    i: usize,
+    c: usize,
+)
+    requires { ⌜ Ready map (now keys) (now left) (now right) × (i < map .t) × (3 * map .m ≤ length (now cells)) × (c < 3 * map .m) ⌝ }
+    ensures { λ _. ⌜ now (cells .exit) ≡ set (now (cells .entry)) c (fix (graph map (now (keys .entry))) (now (cells .entry)) i c (wanted map (now (keys .entry)) i)) ⌝ }
+{
+    let which = map.which;
+    let value = cells::value_of(cells, map.m, count::hash_at(map, keys, left, right, i));
+    cells[c] = cells[c] ^ items::value_at(which, keys, left, right, i) ^ value;
+}
+
+// Fills the cells, over cells that are 0.
+pub fn fill_all(
+    map: Map,
+    keys: &[u64],
+    left: &[u16],
+    right: &[u16],
+    cells: &mut [u16],
+    work: &[u16],
+)
+    requires { ⌜ AtTurn map (now keys) (now left) (now right) (now work) (map .t) × (3 * map .m ≤ length (now cells)) × ((k : ℕ) → k < 3 * map .m → getD (now cells) k 0 ≡ 0) ⌝ }
+    ensures { λ _. ⌜ Valued (graph map (now (keys .entry))) (map .t) (wanted map (now (keys .entry))) (now (cells .exit)) × Clean (graph map (now (keys .entry))) (map .t) (3 * map .m) (now (cells .exit)) × Beyond (3 * map .m) (now (cells .entry)) (now (cells .exit)) ⌝ }
+{
+    let m = map.m;
+    let t = map.t;
+    let mut done = 0;
+    while done < t {
+        done += 1;
+        let x = 6 * m + t - done;
+        let y = x + t;
+        let i = work[x] as usize;
+        let c = work[y] as usize;
+        fix_one(map, keys, left, right, cells, i, c);
+    }
+}
