@@ -2,28 +2,31 @@
 --     stuck-largest    no cell has one item left: those left are the largest jam
 --     built            what `build` has done is what it promises
 -- Assumes nothing.
-use mathlib.Core.Path.{_≡_, refl, sym, ap, _∙_}
+use mathlib.Core.Path.{_≡_, refl, ap, _∙_}
 use mathlib.Core.List.{List}
-use mathlib.Core.Logic.{_⊎_, ⊎-elim}
+use mathlib.Core.Logic.{_⊎_, inl, inr, ⊎-elim}
 use Prim.Native.Nat.{ℕ, _+_, _-_, _*_, _<_}
 use native.Mathlib.Omega.{arith}
 use lib.ListN.{length, getD}
 use Rattle.words.specs.Mix.{itemHash}
-use Rattle.cells.specs.Cells.{segment, cellCount, cellOf, Segment, valueAt}
+use Rattle.cells.specs.Cells.{segment, cellCount, Segment, valueAt}
 use Rattle.cells.specs.Memory.{cleared}
-use Rattle.maps.specs.Jam.{Touches, touch, Largest, LargestJam, Jamless, sizeOf}
-use Rattle.maps.specs.Built.{workCount, Filled, Built}
+use Rattle.items.specs.Items.{itemsOf, valuesOf}
+use Rattle.maps.specs.declared.Map.{Map}
+use Rattle.maps.specs.Jam.{Touches, touch, Largest, sizeOf}
+use Rattle.maps.specs.Built.{workCount, Filled, Built, MapBuilt}
 use Rattle.maps.specs.Inner.Peel.{touchb, live, still}
 use Rattle.maps.specs.Inner.Work.{Peeled, Stuck, Beyond, xorOf, stOf, atOf}
 use Rattle.maps.specs.Inner.Fill.{valueOf, Valued, Clean}
+use Rattle.maps.specs.Inner.Ready.{Ready, PeeledOut, FilledAll}
 use Rattle.maps.proofs.Sets.{size-one, One}
 use Rattle.maps.proofs.Jams.{and-right, touched, rest-largest, all-peeled}
 use Rattle.maps.proofs.Puts.{spread, touch-below}
 use Rattle.maps.proofs.Clearing.{drop-cleared, drop-same, cleared-same}
 
-pub stuck-largest : (e : ℕ → ℕ → ℕ) (t cap : ℕ) (w : List ℕ) (n : ℕ) → ((i c : ℕ) → Touches e i c → c < cap) → Peeled e t cap w n → Stuck cap w → (n ≡ t → ⊥)
+pub stuck-largest : {e : ℕ → ℕ → ℕ} {t cap n : ℕ} {w : List ℕ} → ((i c : ℕ) → Touches e i c → c < cap) → Peeled e t cap w n → Stuck cap w → (n ≡ t → ⊥)
     → Largest e t (live (stOf cap w) n)
-stuck-largest e t cap w n below P S h =
+stuck-largest {e} {t} {cap} {n} {w} below P S h =
     rest-largest e t (stOf cap w) (atOf cap t w) n (P .order) h
     (λ c z.
     let st = stOf cap w in
@@ -32,68 +35,77 @@ stuck-largest e t cap w n below P S h =
     let l : c < cap = below i c (touched e i c (and-right (live st n i) (touchb e i c) (o .passes))) in
     S c l (P .holds .deg c l ∙ z))
 
--- with n of t items peeled the cells a are filled if that is all of them, and otherwise left
-pub record Ended (e : ℕ → ℕ → ℕ) (t cap : ℕ) (want : ℕ → ℕ) (n : ℕ) (a b : List ℕ) : Type 0 where
-  pub long : length b ≡ length a
-  pub how : ((n ≡ t) × Valued e t want b × Clean e t cap b × Beyond cap a b) ⊎ ((n ≡ t → ⊥) × (b ≡ a))
+module _ (seed : ℕ) (items values : List ℕ) where
+  abbrev e : ℕ → ℕ → ℕ
+  e = touch seed items
 
-pub work-size : (m t n : ℕ) → m ≡ segment t → t ≡ n → 6 * m + 2 * t ≡ workCount n
-work-size m t n em et = rw (em, et) (omega arith)
+  abbrev t : ℕ
+  t = length items
 
--- a and u are the cells and the work before, a₁ the cells cleared, w the work when no more can be peeled, and b and v cells and work after
-module _ (seed : ℕ) (items values a a₁ b u w v : List ℕ) (n : ℕ) where
-  -- the sizes are those of the items
-  module _ (S : Segment (segment (length items))) (z : a₁ ≡ cleared (cellCount (length items)) a)
-      (P : Peeled (touch seed items) (length items) (cellCount (length items)) w n) (sw : v ≡ cleared (workCount (length items)) u) where
-    filled : n ≡ length items → Filled seed items values a b → Built seed items values a u (length items - n) b v
-    filled q F =
+  -- cells and work are a and u before and b and v after; w is the work when no more can be peeled
+  module _ {a b u w v : List ℕ} {n : ℕ} (P : Peeled e t (cellCount t) w n) (sw : v ≡ cleared (workCount t) u) where
+    built-filled : n ≡ t → Filled seed items values a b → Built seed items values a u (t - n) b v
+    built-filled q F =
         record {
-          accepted = λ o.
-              (all-peeled (touch seed items) (length items) (stOf (cellCount (length items)) w) (atOf (cellCount (length items)) (length items) w) n (P .order) q, F);
+          accepted = λ o. (all-peeled e t (stOf (cellCount t) w) (atOf (cellCount t) t w) n (P .order) q, F);
           refused = λ o. absurd (omega arith);
           swept = sw;
         }
 
-    jammed : (n ≡ length items → ⊥) → Stuck (cellCount (length items)) w → b ≡ a₁ → Built seed items values a u (length items - n) b v
-    jammed q stuck same =
-        let left : sizeOf (live (stOf (cellCount (length items)) w) n) (length items) + n ≡ length items = P .order .left in
-        let below : (i c : ℕ) → Touches (touch seed items) i c → c < cellCount (length items) =
-        λ i c t. touch-below c (spread (segment (length items)) (λ k. itemHash (getD items k 0) seed) i S) t in
+    built-jammed : Segment (segment t) → (n ≡ t → ⊥) → Stuck (cellCount t) w → b ≡ cleared (cellCount t) a → Built seed items values a u (t - n) b v
+    built-jammed S q stuck same =
+        let left : sizeOf (live (stOf (cellCount t) w) n) t + n ≡ t = P .order .left in
         record {
           accepted = λ o. absurd (q (omega arith));
           refused = λ o. (
             (
-              live (stOf (cellCount (length items)) w) n,
-              stuck-largest (touch seed items) (length items) (cellCount (length items)) w n below P stuck q,
+              live (stOf (cellCount t) w) n,
+              stuck-largest (λ i c h. touch-below c (spread (segment t) (λ k. itemHash (getD items k 0) seed) i S) h) P stuck q,
               omega arith,
             ),
-            same ∙ z,
+            same,
           );
           swept = sw;
         }
 
-    whole : length a₁ ≡ length a → Stuck (cellCount (length items)) w
-        → Ended (touch seed items) (length items) (cellCount (length items)) (λ i. getD values i 0) n a₁ b → Built seed items values a u (length items - n) b v
-    unfolding Valued Clean valueOf valueAt
-    whole l stuck E =
-        ⊎-elim
-        (λ h.
-        filled (h .0)
-        (record {
-          valued = h .1;
-          untouched = h .2;
-          beyond = drop-same (cellCount (length items)) a₁ b (E .long) (h .3) ∙ rw z (drop-cleared (cellCount (length items)) a);
-          long = E .long ∙ l;
-        }))
-        (λ h. jammed (h .0) stuck (h .1))
-        (E .how)
+-- with n items peeled the cells a are filled if that is all of them, and otherwise left
+pub record Ended (map : Map) (keys : List ℕ) (n : ℕ) (a b : List ℕ) : Type 0 where
+  pub long : length b ≡ length a
+  pub how : ((n ≡ map .t) × FilledAll map keys a b) ⊎ ((n ≡ map .t → ⊥) × (b ≡ a))
 
-  pub built : (m t : ℕ) → m ≡ segment t → t ≡ length items → Segment m → a₁ ≡ cleared (3 * m) a → length a₁ ≡ length a
-      → Peeled (λ j i. cellOf m j (itemHash (getD items i 0) seed)) t (3 * m) w n → Stuck (3 * m) w
-      → length w ≡ length u → Beyond (6 * m + 2 * t) u w → v ≡ cleared (6 * m + 2 * t) w
-      → Ended (λ j i. cellOf m j (itemHash (getD items i 0) seed)) t (3 * m) (λ i. getD values i 0) n a₁ b
-      → Built seed items values a u (t - n) b v
-  built m t em et S z l P stuck long B C E =
-      let q : v ≡ cleared (workCount (length items)) u =
-      C ∙ cleared-same (6 * m + 2 * t) u w long B ∙ ap (λ (k : ℕ). cleared k u) (work-size m t (length items) em et) in
-      rw et (whole (rw (em, et) at S) (rw (em, et) at z) (rw (em, et) at P) q l (rw (em, et) at stuck) (rw (em, et) at E))
+pub ended-filled : {map : Map} {keys : List ℕ} {n : ℕ} {a b d : List ℕ} → n ≡ map .t → FilledAll map keys a d → length d ≡ length a → b ≡ d → Ended map keys n a b
+ended-filled q F l e = record { long = ap length e ∙ l; how = inl (q, rw e F) }
+
+pub ended-left : {map : Map} {keys : List ℕ} {n : ℕ} {a b : List ℕ} → (n ≡ map .t → ⊥) → b ≡ a → Ended map keys n a b
+ended-left q e = record { long = ap length e; how = inr (q, e) }
+
+pub work-size : (m t n : ℕ) → m ≡ segment t → t ≡ n → 6 * m + 2 * t ≡ workCount n
+work-size m t n em et = rw (em, et) (omega arith)
+
+pub built : {map : Map} {keys left right : List ℕ} {a a₁ b u w v : List ℕ} {n : ℕ} → a₁ ≡ cleared (3 * map .m) a → length a₁ ≡ length a → length w ≡ length u
+    → PeeledOut map keys left right u w n → v ≡ cleared (6 * map .m + 2 * map .t) w → Ended map keys n a₁ b
+    → MapBuilt (map .which) (map .seed) keys a u (map .t - n) b v
+unfolding Valued Clean valueOf valueAt
+built {map} {keys} {a = a} {a₁} {b} {u} {w} {v} {n} z l lw O y E =
+    let items : List ℕ = itemsOf (map .which) keys in
+    let values : List ℕ = valuesOf (map .which) keys in
+    let em : map .m ≡ segment (map .t) = O .turn .ready .size in
+    let et : map .t ≡ length items = O .turn .ready .all in
+    let z′ : a₁ ≡ cleared (cellCount (length items)) a = rw (em, et) at z in
+    let P : Peeled (touch (map .seed) items) (length items) (cellCount (length items)) w n = rw (em, et) at (O .turn .peeled) in
+    let sw : v ≡ cleared (workCount (length items)) u =
+    y ∙ cleared-same (6 * map .m + 2 * map .t) u w lw (O .beyond) ∙ ap (λ (k : ℕ). cleared k u) (work-size (map .m) (map .t) (length items) em et) in
+    rw et
+    (⊎-elim
+    (λ h.
+    let F : FilledAll map keys a₁ b = h .1 in
+    let B : Beyond (cellCount (length items)) a₁ b = rw (em, et) at (F .beyond) in
+    built-filled (map .seed) items values P sw (rw et at (h .0))
+    (record {
+      valued = rw (em, et) at (F .valued);
+      untouched = rw (em, et) at (F .clean);
+      beyond = drop-same (cellCount (length items)) a₁ b (E .long) B ∙ rw z′ (drop-cleared (cellCount (length items)) a);
+      long = E .long ∙ l;
+    }))
+    (λ h. built-jammed (map .seed) items values P sw (rw (em, et) at (O .turn .ready .fits)) (rw et at (h .0)) (rw (em, et) at (O .stuck)) (h .1 ∙ z′))
+    (E .how))

@@ -7,10 +7,10 @@ use native.Mathlib.Omega.{arith}
 use lib.ListN.{length, getD, drop, replicate, length-replicate, length-drop, getD-replicate, List·getD-append}
 use lib.Seq.{getD-drop, drop-at, ext-getD}
 use Rattle.cells.specs.Memory.{cleared}
-use Rattle.maps.specs.Inner.Work.{Beyond}
+use Rattle.maps.specs.Inner.Work.{Zeros, Beyond}
 
-pub cleared-zeros : (m : ℕ) (xs ys : List ℕ) → ys ≡ cleared m xs → (k : ℕ) → k < m → getD ys k 0 ≡ 0
-cleared-zeros m xs ys e k l =
+pub cleared-zeros : (m : ℕ) (xs : List ℕ) {ys : List ℕ} → ys ≡ cleared m xs → Zeros m ys
+cleared-zeros m xs e k l =
     ap (λ (zs : List ℕ). getD zs k 0) e ∙ List·getD-append (replicate m 0) (drop m xs) 0 k (simp length-replicate l) ∙ getD-replicate m k 0 0 l
 
 pub drop-cleared : (m : ℕ) (xs : List ℕ) → drop m (cleared m xs) ≡ drop m xs
@@ -23,8 +23,8 @@ drop-getD m a b e k l =
     ap (λ (x : ℕ). getD a x 0) (sym q) ∙ sym (getD-drop m a (k - m) 0) ∙ ap (λ (l : List ℕ). getD l (k - m) 0) e ∙ getD-drop m b (k - m) 0
     ∙ ap (λ (x : ℕ). getD b x 0) q
 
-pub cleared-beyond : (m : ℕ) (xs ys : List ℕ) → ys ≡ cleared m xs → Beyond m xs ys
-cleared-beyond m xs ys e = drop-getD m ys xs (ap (drop m) e ∙ drop-cleared m xs)
+pub cleared-beyond : (m : ℕ) (xs : List ℕ) {ys : List ℕ} → ys ≡ cleared m xs → Beyond m xs ys
+cleared-beyond m xs {ys} e = drop-getD m ys xs (ap (drop m) e ∙ drop-cleared m xs)
 
 pub drop-same : (m : ℕ) (a b : List ℕ) → length b ≡ length a → Beyond m a b → drop m b ≡ drop m a
 drop-same m a b l B =

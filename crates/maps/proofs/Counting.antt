@@ -1,31 +1,40 @@
 -- Items counted at their cells, one after another.
---     holds-none, holds-more    what the loop of `count_all` keeps
---     holds-few                 a count stays below 65,535
+--     counted-none, counted-more    what the loop of `count_all` keeps
+--     counted-few                   a count stays below 65,535
 -- Assumes nothing.
-use mathlib.Core.Path.{_≡_, ap, _∙_}
-use mathlib.Core.Bool.{Bool}
+use mathlib.Core.Path.{_≡_, refl, ap, _∙_}
 use mathlib.Core.List.{List}
-use Prim.Native.Nat.{ℕ, _+_, _<_}
+use Prim.Native.Nat.{ℕ, _+_, _*_, _<_}
 use native.Mathlib.Numerals.{add-one}
 use native.Mathlib.Omega.{arith}
 use lib.ListN.{getD}
+use Rattle.maps.specs.declared.Map.{Map}
 use Rattle.maps.specs.Jam.{sizeOf}
 use Rattle.maps.specs.Inner.Peel.{touchb}
-use Rattle.maps.specs.Inner.Work.{Put, Holds, moreIf, xorIf, xorOf}
+use Rattle.maps.specs.Inner.Work.{Put, Zeros, moreIf, xorIf, xorOf}
+use Rattle.maps.specs.Inner.Ready.{graph, Counted}
 use Rattle.maps.proofs.Sets.{size-le}
 
-pub holds-none : (cap : ℕ) (s : ℕ → ℕ → Bool) (w : List ℕ) → ((k : ℕ) → k < cap + cap → getD w k 0 ≡ 0) → Holds 0 cap s w
+pub counted-none : (map : Map) (keys w : List ℕ) → Zeros (6 * map .m) w → Counted map keys 0 w w
 unfolding sizeOf xorOf
-holds-none cap s w h = record { deg = λ c l. h c (omega arith); xr = λ c l. h (cap + c) (omega arith) }
+counted-none map keys w h =
+    record {
+      holds = record { deg = λ c l. h c (omega arith); xr = λ c l. h (3 * map .m + c) (omega arith) };
+      beyond = λ k l. refl;
+    }
 
-pub holds-few : (t cap : ℕ) (s : ℕ → ℕ → Bool) (w : List ℕ) → Holds t cap s w → (c : ℕ) → c < cap → t < 65535 → getD w c 0 < 65535
-holds-few t cap s w H c l m = omega (arith, H .deg c l, size-le (s c) t)
+pub counted-few : {map : Map} {keys : List ℕ} {i : ℕ} {a b : List ℕ} → Counted map keys i a b → (c : ℕ) → c < 3 * map .m → i < 65535 → getD b c 0 < 65535
+counted-few {map} {keys} {i} C c l m = omega (arith, C .holds .deg c l, size-le (λ j. touchb (graph map keys) j c) i)
 
-pub holds-more : (e : ℕ → ℕ → ℕ) (i cap : ℕ) (a b : List ℕ) → Holds i cap (λ c j. touchb e j c) a → Put e cap i a b → Holds (i + 1) cap (λ c j. touchb e j c) b
+pub counted-more : {map : Map} {keys : List ℕ} {i : ℕ} {a b d : List ℕ} → Counted map keys i a b → Put (graph map keys) (3 * map .m) i b d
+    → Counted map keys (i + 1) a d
 unfolding sizeOf xorOf
-holds-more e i cap a b H P =
+counted-more {map} {keys} {i} C P =
     rw add-one
     (record {
-      deg = λ c l. P .deg c l ∙ ap (moreIf (touchb e i c)) (H .deg c l);
-      xr = λ c l. P .xr c l ∙ ap (xorIf (touchb e i c) i) (H .xr c l);
+      holds = record {
+        deg = λ c l. P .deg c l ∙ ap (moreIf (touchb (graph map keys) i c)) (C .holds .deg c l);
+        xr = λ c l. P .xr c l ∙ ap (xorIf (touchb (graph map keys) i c) i) (C .holds .xr c l);
+      };
+      beyond = λ k l. P .rest k (omega arith) ∙ C .beyond k l;
     })

@@ -34,9 +34,9 @@ pub record OneLeft (e : ℕ → ℕ → ℕ) (t : ℕ) (st : ℕ → ℕ) (n c i
   pub here : Touches e i c
   pub only : (j : ℕ) → j < t → live st n j ≡ true → Touches e j c → j ≡ i
 
-pub one-left : (e : ℕ → ℕ → ℕ) (t cap : ℕ) (w : List ℕ) (n c : ℕ) → Peeled e t cap w n → c < cap → getD w c 0 ≡ 1
+pub one-left : {e : ℕ → ℕ → ℕ} {t cap n : ℕ} {w : List ℕ} (c : ℕ) → Peeled e t cap w n → c < cap → getD w c 0 ≡ 1
     → OneLeft e t (stOf cap w) n c (getD w (cap + c) 0)
-one-left e t cap w n c P l d =
+one-left {e} {t} {cap} {n} {w} c P l d =
     let st = stOf cap w in
     let i = getD w (cap + c) 0 in
     let o : One (still e st n c) t i = rw (P .holds .xr c l) (size-one (still e st n c) t (sym (P .holds .deg c l) ∙ d)) in
@@ -50,9 +50,9 @@ one-left e t cap w n c P l d =
       only = λ j m a b. o .only j m (and-both a (touches e j c b));
     }
 
-pub left-counted : (e : ℕ → ℕ → ℕ) (t cap : ℕ) (w : List ℕ) (n i k : ℕ) → Peeled e t cap w n → i < t → live (stOf cap w) n i ≡ true → k < cap → Touches e i k
-    → 0 < getD w k 0
-left-counted e t cap w n i k P l v m h =
+pub left-counted : {e : ℕ → ℕ → ℕ} {t cap n : ℕ} {w : List ℕ} (i k : ℕ) → Peeled e t cap w n → i < t → live (stOf cap w) n i ≡ true → k < cap
+    → Touches e i k → 0 < getD w k 0
+left-counted {e} {t} {cap} {n} {w} i k P l v m h =
     let some : ¬ (getD w k 0 ≡ 0) =
     λ z. clash (and-both v (touches e i k h)) (size-zero (still e (stOf cap w) n k) t (sym (P .holds .deg k m) ∙ z) i l) in
     omega arith
@@ -84,7 +84,7 @@ more-inj true x y e = suc-inj e
 more-inj false x y e = e
 
 -- the step: w with i and c stored on the stacks is w′ with i put in
-module _ (e : ℕ → ℕ → ℕ) (t cap : ℕ) (w : List ℕ) (n c x y : ℕ) (w′ : List ℕ)
+module _ {e : ℕ → ℕ → ℕ} {t cap n : ℕ} {w w′ : List ℕ} (c x y : ℕ)
     (P : Peeled e t cap w n) (l : c < cap) (d : getD w c 0 ≡ 1) (long : cap + cap + t + t ≤ length w)
     (ex : x ≡ cap + cap + n) (ey : y ≡ cap + cap + t + n)
     (R : Put e cap (getD w (cap + c) 0) w′ (set (set w x (getD w (cap + c) 0)) y c)) where
@@ -101,7 +101,7 @@ module _ (e : ℕ → ℕ → ℕ) (t cap : ℕ) (w : List ℕ) (n c x y : ℕ) 
   St′ = stOf cap w′
 
   O : OneLeft e t St n c I
-  O = one-left e t cap w n c P l d
+  O = one-left c P l d
 
   old : (k : ℕ) → (k ≡ x → ⊥) → (k ≡ y → ⊥) → getD W₁ k 0 ≡ getD w k 0
   old k p q = getD-set-other (set w x I) y k c 0 q ∙ getD-set-other w x k I 0 p
@@ -199,9 +199,9 @@ unfolding sizeOf
 all-left zero = refl
 all-left (suc t) = ap suc (all-left t)
 
-pub start-peeled : (e : ℕ → ℕ → ℕ) (t cap : ℕ) (w : List ℕ) → Holds t cap (λ c i. touchb e i c) w → Peeled e t cap w 0
+pub start-peeled : (e : ℕ → ℕ → ℕ) {t cap : ℕ} {w : List ℕ} → Holds t cap (λ c i. touchb e i c) w → Peeled e t cap w 0
 unfolding live
-start-peeled e t cap w H =
+start-peeled e {t} H =
     record {
       order = record {
         small = λ p l. absurd (omega arith);

@@ -20,17 +20,12 @@ use lib.Seq.{getD-set-same, getD-set-other}
 use lib.Bits.{bitXor}
 use Rattle.words.proofs.Xor.{xor-cancel}
 use Rattle.cells.specs.Cells.{cellOf, Segment}
+use Rattle.maps.specs.declared.Touched.{Touched}
 use Rattle.maps.specs.Jam.{Touches}
 use Rattle.maps.specs.Inner.Peel.{touchb}
 use Rattle.maps.specs.Inner.Work.{PutAt, Put, moreIf, xorIf}
-use Rattle.maps.specs.Inner.Ready.{cellsOf}
+use Rattle.maps.specs.Inner.Ready.{cellsOf, Spread, CellsAt}
 use Rattle.maps.proofs.Sets.{true-or-false}
-
--- item i's three cells rise, and lie below cap
-pub record Spread (e : ℕ → ℕ → ℕ) (cap i : ℕ) : Type 0 where
-  pub first : e 0 i < e 1 i
-  pub second : e 1 i < e 2 i
-  pub third : e 2 i < cap
 
 cell-rises : (m h j k : ℕ) → 0 < m → j < k → cellOf m j h < cellOf m k h
 unfolding cellOf
@@ -49,6 +44,18 @@ spread m h i S =
       first = cell-rises m (h i) 0 1 (omega arith) (omega arith);
       second = cell-rises m (h i) 1 2 (omega arith) (omega arith);
       third = cell-below m (h i) (omega arith);
+    }
+
+-- three cells computed from a hash are those of the item with that hash
+pub cells-found : (m : ℕ) (h : ℕ → ℕ) (i r : ℕ) (at : Touched) → Segment m → r ≡ h i
+    → at .first ≡ cellOf m 0 r → at .second ≡ cellOf m 1 r → at .third ≡ cellOf m 2 r → CellsAt (λ j i. cellOf m j (h i)) (3 * m) i at
+cells-found m h i r at S e a b c =
+    let s : Spread (λ j k. cellOf m j r) (3 * m) i = spread m (λ k. r) i S in
+    record {
+      first = rw e at a;
+      second = rw e at b;
+      third = rw e at c;
+      spread = record { first = rw (a, b) (s .first); second = rw (b, c) (s .second); third = rw c (s .third) };
     }
 
 pub touch-below : {e : ℕ → ℕ → ℕ} {cap i : ℕ} (c : ℕ) → Spread e cap i → Touches e i c → c < cap
@@ -125,10 +132,10 @@ excluded {e} {i = i} c S =
       qr = λ p q. omega (arith, eqb-true (e 1 i) c p, eqb-true (e 2 i) c q);
     }
 
-pub puts : (e : ℕ → ℕ → ℕ) (cap i : ℕ) (a b d f : List ℕ) → Spread e cap i
+pub puts : {e : ℕ → ℕ → ℕ} {cap i : ℕ} {a b d f : List ℕ} → Spread e cap i
     → PutAt cap (e 0 i) i a b → PutAt cap (e 1 i) i b d → PutAt cap (e 2 i) i d f → Put e cap i a f
 unfolding touchb
-puts e cap i a b d f S P Q R =
+puts {e} {cap} {i} {a} {b} {d} {f} S P Q R =
     record {
       deg = λ c l.
           deg-one cap (e 2 i) i d f R (omega arith) c l
@@ -141,17 +148,18 @@ puts e cap i a b d f S P Q R =
       rest = λ k l. R .rest k (λ z. omega arith) (λ z. omega arith) ∙ Q .rest k (λ z. omega arith) (λ z. omega arith) ∙ P .rest k (λ z. omega arith) (λ z. omega arith);
     }
 
--- x, y and z are the cells of the hash h
-module _ (m h i x y z : ℕ) (S : Segment m) (ex : x ≡ cellOf m 0 h) (ey : y ≡ cellOf m 1 h) (ez : z ≡ cellOf m 2 h) where
-  pub cells-rise : (x < y) × (y < z) × (z < 3 * m)
-  cells-rise =
-      let s : Spread (cellsOf m h) (3 * m) i = spread m (λ k. h) i S in
-      (rw (ex, ey) (s .first), rw (ey, ez) (s .second), rw ez (s .third))
+-- three cells found for item i are its cells
+module _ {e : ℕ → ℕ → ℕ} {cap i : ℕ} {at : Touched} (C : CellsAt e cap i at) where
+  pub touches-as : {c : ℕ} → Touches (cellsOf at) i c → Touches e i c
+  touches-as (inl h) = inl (sym (C .first) ∙ h)
+  touches-as (inr (inl h)) = inr (inl (sym (C .second) ∙ h))
+  touches-as (inr (inr h)) = inr (inr (sym (C .third) ∙ h))
 
-  pub put-three : (a b d f : List ℕ) → PutAt (3 * m) x i a b → PutAt (3 * m) y i b d → PutAt (3 * m) z i d f → Put (cellsOf m h) (3 * m) i a f
-  put-three a b d f P Q R = puts (cellsOf m h) (3 * m) i a b d f (spread m (λ k. h) i S) (rw ex at P) (rw ey at Q) (rw ez at R)
-
--- only the cells of i itself are looked at
-pub put-as : (e : ℕ → ℕ → ℕ) (cap i : ℕ) (a b : List ℕ) → Put (λ j k. e j i) cap i a b → Put e cap i a b
-unfolding touchb
-put-as e cap i a b P = record { deg = P .deg; xr = P .xr; rest = P .rest }
+  pub put-as : {a b : List ℕ} → Put (cellsOf at) cap i a b → Put e cap i a b
+  unfolding touchb
+  put-as P =
+      record {
+        deg = λ c l. rw (← C .first, ← C .second, ← C .third) (P .deg c l);
+        xr = λ c l. rw (← C .first, ← C .second, ← C .third) (P .xr c l);
+        rest = P .rest;
+      }

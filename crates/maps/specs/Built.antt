@@ -5,6 +5,8 @@ use Prim.Native.Nat.{ℕ, _+_, _*_, _≤_, _<_}
 use lib.ListN.{length, getD, drop}
 use Rattle.cells.specs.Cells.{cellCount, mapValue}
 use Rattle.cells.specs.Memory.{cleared}
+use Rattle.items.specs.Items.{itemsOf, valuesOf}
+use Rattle.items.specs.declared.Items.{Items}
 use Rattle.maps.specs.Jam.{Touches, touch, Jamless, LargestJam}
 
 -- the work that a map of t items takes
@@ -28,3 +30,7 @@ pub record Built (seed : ℕ) (items values cells work : List ℕ) (size : ℕ) 
   pub accepted : size ≡ 0 → Jamless seed items × Filled seed items values cells cells′
   pub refused : 0 < size → LargestJam seed items size × (cells′ ≡ cleared (cellCount (length items)) cells)
   pub swept : work′ ≡ cleared (workCount (length items)) work
+
+-- the same for the items and values that `which` names of a table T
+abbrev pub MapBuilt : Items → ℕ → List ℕ → List ℕ → List ℕ → ℕ → List ℕ → List ℕ → Type 0
+MapBuilt which seed T cells work size cells′ work′ = Built seed (itemsOf which T) (valuesOf which T) cells work size cells′ work′

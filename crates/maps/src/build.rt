@@ -1,6 +1,6 @@
 // The build of one map.
-ghost use Rattle.items.specs.Items.{itemsOf, valuesOf, Known};
-ghost use Rattle.maps.specs.Built.{Room, Built};
+ghost use Rattle.items.specs.Items.{itemsOf, Known};
+ghost use Rattle.maps.specs.Built.{Room, MapBuilt};
 use crate::Map;
 use crate::fill;
 use crate::peel;
@@ -18,7 +18,7 @@ pub fn build(
     work: &mut [u16],
 ) -> usize
     requires { ⌜ Known which (now keys) (now left) (now right) × Room (itemsOf which (now keys)) (now cells) (now work) ⌝ }
-    ensures { λ r. ⌜ Built seed (itemsOf which (now (keys .entry))) (valuesOf which (now (keys .entry))) (now (cells .entry)) (now (work .entry)) r (now (cells .exit)) (now (work .exit)) ⌝ }
+    ensures { λ r. ⌜ MapBuilt which seed (now (keys .entry)) (now (cells .entry)) (now (work .entry)) r (now (cells .exit)) (now (work .exit)) ⌝ }
 {
     let t = items::item_count(which, keys, left, right);
     let m = cells::segment_size(t);

@@ -3,12 +3,11 @@
 ghost use mathlib.Core.Path.{_≡_};
 ghost use Prim.Native.Nat.{ℕ, _+_, _*_, _<_, _≤_};
 ghost use lib.ListN.{length, getD};
-ghost use Rattle.cells.specs.Cells.{Segment};
 ghost use Rattle.maps.specs.Jam.{Touches};
-ghost use Rattle.maps.specs.Inner.Peel.{touchb};
-ghost use Rattle.maps.specs.Inner.Work.{PutAt, Put, Holds, Beyond};
-ghost use Rattle.maps.specs.Inner.Ready.{cellsOf, hashOf, graph, Ready};
+ghost use Rattle.maps.specs.Inner.Work.{PutAt, Put, Zeros};
+ghost use Rattle.maps.specs.Inner.Ready.{hashOf, graph, cellsOf, Spread, CellsAt, Ready, Counted};
 use crate::Map;
+use crate::Touched;
 
 // The hash of item i.
 pub fn hash_at(map: Map, keys: &[u64], left: &[u16], right: &[u16], i: usize) -> u64
@@ -17,6 +16,20 @@ pub fn hash_at(map: Map, keys: &[u64], left: &[u16], right: &[u16], i: usize) ->
 {
     let which = map.which;
     words::hash::item_hash(items::item_at(which, keys, left, right, i), map.seed)
+}
+
+// The cells that item i touches.
+pub fn cells_at(map: Map, keys: &[u64], left: &[u16], right: &[u16], i: usize) -> Touched
+    requires { ⌜ Ready map (now keys) (now left) (now right) × (i < map .t) ⌝ }
+    ensures { λ r. ⌜ CellsAt (graph map (now (keys .entry))) (3 * map .m) i r ⌝ }
+{
+    let m = map.m;
+    let h = hash_at(map, keys, left, right, i);
+    Touched {
+        first: cells::cell_of(h, m, 0),
+        second: cells::cell_of(h, m, 1),
+        third: cells::cell_of(h, m, 2),
+    }
 }
 
 // Puts item i in at cell c.
@@ -39,44 +52,37 @@ fn take_out(work: &mut [u16], cap: usize, c: usize, i: u16)
     work[x] = work[x] ^ i;
 }
 
-// Puts item i, of the hash h, in at each of its cells.
-fn put_item(work: &mut [u16], m: usize, h: u64, i: u16)
-    requires { ⌜ Segment m × (6 * m ≤ length (now work)) × ((c : ℕ) → Touches (cellsOf m h) i c → getD (now work) c 0 < 65535) ⌝ }
-    ensures { λ _. ⌜ Put (cellsOf m h) (3 * m) i (now (work .entry)) (now (work .exit)) ⌝ }
+// Puts item i in at each of its cells.
+fn put_item(work: &mut [u16], cap: usize, at: Touched, i: u16)
+    requires { ⌜ Spread (cellsOf at) cap i × (cap + cap ≤ length (now work)) × ((c : ℕ) → Touches (cellsOf at) i c → getD (now work) c 0 < 65535) ⌝ }
+    ensures { λ _. ⌜ Put (cellsOf at) cap i (now (work .entry)) (now (work .exit)) ⌝ }
 {
-    let cap = 3 * m;
-    let a = cells::cell_of(h, m, 0);
-    let b = cells::cell_of(h, m, 1);
-    let c = cells::cell_of(h, m, 2);
-    put_in(work, cap, a, i);
-    put_in(work, cap, b, i);
-    put_in(work, cap, c, i);
+    put_in(work, cap, at.first, i);
+    put_in(work, cap, at.second, i);
+    put_in(work, cap, at.third, i);
 }
 
-// Takes item i, of the hash h, out at each of its cells: putting it in again gives what was there.
-pub fn take_item(work: &mut [u16], m: usize, h: u64, i: u16)
-    requires { ⌜ Segment m × (6 * m ≤ length (now work)) × ((c : ℕ) → Touches (cellsOf m h) i c → 0 < getD (now work) c 0) ⌝ }
-    ensures { λ _. ⌜ Put (cellsOf m h) (3 * m) i (now (work .exit)) (now (work .entry)) ⌝ }
+// Takes item i out at each of its cells: putting it in again gives what was there.
+pub fn take_item(work: &mut [u16], cap: usize, at: Touched, i: u16)
+    requires { ⌜ Spread (cellsOf at) cap i × (cap + cap ≤ length (now work)) × ((c : ℕ) → Touches (cellsOf at) i c → 0 < getD (now work) c 0) ⌝ }
+    ensures { λ _. ⌜ Put (cellsOf at) cap i (now (work .exit)) (now (work .entry)) ⌝ }
 {
-    let cap = 3 * m;
-    let a = cells::cell_of(h, m, 0);
-    let b = cells::cell_of(h, m, 1);
-    let c = cells::cell_of(h, m, 2);
-    take_out(work, cap, c, i);
-    take_out(work, cap, b, i);
-    take_out(work, cap, a, i);
+    take_out(work, cap, at.third, i);
+    take_out(work, cap, at.second, i);
+    take_out(work, cap, at.first, i);
 }
 
-// Puts all items in, over work that is 0.
+// Puts all items in, over counts and xors that are 0.
 pub fn count_all(map: Map, keys: &[u64], left: &[u16], right: &[u16], work: &mut [u16])
-    requires { ⌜ Ready map (now keys) (now left) (now right) × (6 * map .m ≤ length (now work)) × ((k : ℕ) → k < 6 * map .m → getD (now work) k 0 ≡ 0) ⌝ }
-    ensures { λ _. ⌜ Holds (map .t) (3 * map .m) (λ c i. touchb (graph map (now (keys .entry))) i c) (now (work .exit)) × Beyond (6 * map .m) (now (work .entry)) (now (work .exit)) ⌝ }
+    requires { ⌜ Ready map (now keys) (now left) (now right) × (6 * map .m ≤ length (now work)) × Zeros (6 * map .m) (now work) ⌝ }
+    ensures { λ _. ⌜ Counted map (now (keys .entry)) (map .t) (now (work .entry)) (now (work .exit)) ⌝ }
 {
     let m = map.m;
     let t = map.t;
     let mut i = 0;
     while i < t {
-        put_item(work, m, hash_at(map, keys, left, right, i), i as u16);
+        let at = cells_at(map, keys, left, right, i);
+        put_item(work, 3 * m, at, i as u16);
         i += 1;
     }
 }

@@ -1,10 +1,9 @@
 // Fills the cells once all items are peeled, the item peeled last first: an item's cell is touched by none that was peeled later.
 ghost use mathlib.Core.Path.{_≡_};
 ghost use Prim.Native.Nat.{ℕ, _+_, _*_, _<_, _≤_};
-ghost use lib.ListN.{length, getD, set};
-ghost use Rattle.maps.specs.Inner.Work.{Beyond};
-ghost use Rattle.maps.specs.Inner.Fill.{fix, Valued, Clean};
-ghost use Rattle.maps.specs.Inner.Ready.{graph, wanted, Ready, AtTurn};
+ghost use lib.ListN.{length};
+ghost use Rattle.maps.specs.Inner.Work.{Zeros};
+ghost use Rattle.maps.specs.Inner.Ready.{fixed, Ready, AtTurn, FilledAll};
 use crate::Map;
 use crate::count;
 
@@ -19,7 +18,7 @@ fn fix_one(
     c: usize,
 )
     requires { ⌜ Ready map (now keys) (now left) (now right) × (i < map .t) × (3 * map .m ≤ length (now cells)) × (c < 3 * map .m) ⌝ }
-    ensures { λ _. ⌜ now (cells .exit) ≡ set (now (cells .entry)) c (fix (graph map (now (keys .entry))) (now (cells .entry)) i c (wanted map (now (keys .entry)) i)) ⌝ }
+    ensures { λ _. ⌜ now (cells .exit) ≡ fixed map (now (keys .entry)) (now (cells .entry)) i c ⌝ }
 {
     let which = map.which;
     let value = cells::value_of(cells, map.m, count::hash_at(map, keys, left, right, i));
@@ -35,8 +34,8 @@ pub fn fill_all(
     cells: &mut [u16],
     work: &[u16],
 )
-    requires { ⌜ AtTurn map (now keys) (now left) (now right) (now work) (map .t) × (3 * map .m ≤ length (now cells)) × ((k : ℕ) → k < 3 * map .m → getD (now cells) k 0 ≡ 0) ⌝ }
-    ensures { λ _. ⌜ Valued (graph map (now (keys .entry))) (map .t) (wanted map (now (keys .entry))) (now (cells .exit)) × Clean (graph map (now (keys .entry))) (map .t) (3 * map .m) (now (cells .exit)) × Beyond (3 * map .m) (now (cells .entry)) (now (cells .exit)) ⌝ }
+    requires { ⌜ AtTurn map (now keys) (now left) (now right) (now work) (map .t) × (3 * map .m ≤ length (now cells)) × Zeros (3 * map .m) (now cells) ⌝ }
+    ensures { λ _. ⌜ FilledAll map (now (keys .entry)) (now (cells .entry)) (now (cells .exit)) ⌝ }
 {
     let m = map.m;
     let t = map.t;

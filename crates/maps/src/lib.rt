@@ -16,3 +16,10 @@ pub struct Map {
     pub m: usize,
     pub t: usize,
 }
+
+// The three cells that an item touches, one in each segment.
+pub struct Touched {
+    pub first: usize,
+    pub second: usize,
+    pub third: usize,
+}

@@ -4,8 +4,8 @@ ghost use mathlib.Core.Path.{_≡_};
 ghost use Prim.Native.Nat.{ℕ, _+_, _*_, _<_, _≤_};
 ghost use lib.ListN.{length, getD};
 ghost use Rattle.maps.specs.Jam.{Touches};
-ghost use Rattle.maps.specs.Inner.Work.{Beyond, Queue, Stuck};
-ghost use Rattle.maps.specs.Inner.Ready.{graph, Ready, AtTurn, TriedAt};
+ghost use Rattle.maps.specs.Inner.Work.{Queue};
+ghost use Rattle.maps.specs.Inner.Ready.{graph, Ready, AtTurn, TriedAt, PeeledOut};
 use crate::Map;
 use crate::count;
 
@@ -30,12 +30,8 @@ fn peel_at(
     let i = work[a];
     work[x] = i;
     work[y] = c as u16;
-    count::take_item(
-        work,
-        m,
-        count::hash_at(map, keys, left, right, i as usize),
-        i,
-    );
+    let at = count::cells_at(map, keys, left, right, i as usize);
+    count::take_item(work, 3 * m, at, i);
 }
 
 // Peels the item at cell c where one is left there. The answer is how many are peeled.
@@ -87,14 +83,10 @@ fn try_three(
     requires { ⌜ AtTurn map (now keys) (now left) (now right) (now work) n × (i < map .t) ⌝ }
     ensures { λ r. ⌜ TriedAt map (now (keys .entry)) (Touches (graph map (now (keys .entry))) i) (now (work .entry)) n (now (work .exit)) r ⌝ }
 {
-    let m = map.m;
-    let h = count::hash_at(map, keys, left, right, i);
-    let a = cells::cell_of(h, m, 0);
-    let b = cells::cell_of(h, m, 1);
-    let c = cells::cell_of(h, m, 2);
-    let n1 = try_peel(map, keys, left, right, work, n, a);
-    let n2 = try_peel(map, keys, left, right, work, n1, b);
-    try_peel(map, keys, left, right, work, n2, c)
+    let at = count::cells_at(map, keys, left, right, i);
+    let n1 = try_peel(map, keys, left, right, work, n, at.first);
+    let n2 = try_peel(map, keys, left, right, work, n1, at.second);
+    try_peel(map, keys, left, right, work, n2, at.third)
 }
 
 // Tries the cells of each peeled item in turn, those peeled on the way too. The answer is how many are peeled.
@@ -107,7 +99,7 @@ fn chase(
     start: usize,
 ) -> usize
     requires { ⌜ AtTurn map (now keys) (now left) (now right) (now work) start × Queue (graph map (now keys)) (3 * map .m) (now work) 0 start ⌝ }
-    ensures { λ r. ⌜ AtTurn map (now (keys .entry)) (now (left .entry)) (now (right .entry)) (now (work .exit)) r × Stuck (3 * map .m) (now (work .exit)) × Beyond (6 * map .m + 2 * map .t) (now (work .entry)) (now (work .exit)) ⌝ }
+    ensures { λ r. ⌜ PeeledOut map (now (keys .entry)) (now (left .entry)) (now (right .entry)) (now (work .entry)) (now (work .exit)) r ⌝ }
 {
     let m = map.m;
     let mut n = start;
@@ -124,7 +116,7 @@ fn chase(
 // Peels as many items as can be. The answer is how many are peeled.
 pub fn peel_all(map: Map, keys: &[u64], left: &[u16], right: &[u16], work: &mut [u16]) -> usize
     requires { ⌜ Ready map (now keys) (now left) (now right) × (6 * map .m + 2 * map .t ≤ length (now work)) ⌝ }
-    ensures { λ r. ⌜ AtTurn map (now (keys .entry)) (now (left .entry)) (now (right .entry)) (now (work .exit)) r × Stuck (3 * map .m) (now (work .exit)) × Beyond (6 * map .m + 2 * map .t) (now (work .entry)) (now (work .exit)) ⌝ }
+    ensures { λ r. ⌜ PeeledOut map (now (keys .entry)) (now (left .entry)) (now (right .entry)) (now (work .entry)) (now (work .exit)) r ⌝ }
 {
     let m = map.m;
     cells::clear(work, 6 * m);

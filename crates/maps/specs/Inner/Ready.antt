@@ -1,17 +1,16 @@
--- A map that is being built.
+-- A map that is being built, and what its functions leave.
 use mathlib.Core.Path.{_≡_}
 use mathlib.Core.List.{List}
-use Prim.Native.Nat.{ℕ, _+_, _*_, _≤_}
-use lib.ListN.{length, getD}
+use Prim.Native.Nat.{ℕ, zero, suc, _+_, _*_, _≤_, _<_}
+use lib.ListN.{length, getD, set}
 use Rattle.words.specs.Mix.{itemHash}
 use Rattle.cells.specs.Cells.{segment, cellOf, Segment}
 use Rattle.items.specs.Items.{itemsOf, valuesOf, Known}
 use Rattle.maps.specs.declared.Map.{Map}
-use Rattle.maps.specs.Inner.Work.{Peeled, Tried}
-
--- the cell of a hash in segment j, whichever the item
-abbrev pub cellsOf : ℕ → ℕ → ℕ → ℕ → ℕ
-cellsOf m h j i = cellOf m j h
+use Rattle.maps.specs.declared.Touched.{Touched}
+use Rattle.maps.specs.Inner.Peel.{touchb}
+use Rattle.maps.specs.Inner.Work.{Holds, Beyond, Peeled, Tried, Stuck}
+use Rattle.maps.specs.Inner.Fill.{fix, Valued, Clean}
 
 -- the hash of item i
 abbrev pub hashOf : Map → List ℕ → ℕ → ℕ
@@ -30,7 +29,32 @@ pub record Ready (map : Map) (keys left right : List ℕ) : Type 0 where
   pub known : Known (map .which) keys left right
   pub all : map .t ≡ length (itemsOf (map .which) keys)
   pub few : map .t ≤ 32768
-  pub segment : Segment (map .m)
+  pub size : map .m ≡ segment (map .t)
+  pub fits : Segment (map .m)
+
+-- three cells as those of any item
+abbrev pub cellsOf : Touched → ℕ → ℕ → ℕ
+cellsOf at zero i = at .first
+cellsOf at (suc zero) i = at .second
+cellsOf at (suc (suc j)) i = at .third
+
+-- item i's three cells rise, and lie below cap
+pub record Spread (e : ℕ → ℕ → ℕ) (cap i : ℕ) : Type 0 where
+  pub first : e 0 i < e 1 i
+  pub second : e 1 i < e 2 i
+  pub third : e 2 i < cap
+
+-- `at` is the three cells of item i
+pub record CellsAt (e : ℕ → ℕ → ℕ) (cap i : ℕ) (at : Touched) : Type 0 where
+  pub first : at .first ≡ e 0 i
+  pub second : at .second ≡ e 1 i
+  pub third : at .third ≡ e 2 i
+  pub spread : Spread (cellsOf at) cap i
+
+-- work a, in which no item is counted, became b, in which the first i are
+pub record Counted (map : Map) (keys : List ℕ) (i : ℕ) (a b : List ℕ) : Type 0 where
+  pub holds : Holds i (3 * map .m) (λ c j. touchb (graph map keys) j c) b
+  pub beyond : Beyond (6 * map .m) a b
 
 -- n of the map's items are peeled, and the work is long enough for all of them
 pub record AtTurn (map : Map) (keys left right work : List ℕ) (n : ℕ) : Type 0 where
@@ -41,3 +65,19 @@ pub record AtTurn (map : Map) (keys left right work : List ℕ) (n : ℕ) : Type
 -- the cells of T were tried
 abbrev pub TriedAt : Map → List ℕ → (ℕ → Type 0) → List ℕ → ℕ → List ℕ → ℕ → Type 0
 TriedAt map keys T a n b r = Tried (graph map keys) (map .t) (3 * map .m) T a n b r
+
+-- work a became b, in which n items are peeled and no more can be
+pub record PeeledOut (map : Map) (keys left right a b : List ℕ) (n : ℕ) : Type 0 where
+  pub turn : AtTurn map keys left right b n
+  pub stuck : Stuck (3 * map .m) b
+  pub beyond : Beyond (6 * map .m + 2 * map .t) a b
+
+-- the cells with item i's value set by a store at cell c
+abbrev pub fixed : Map → List ℕ → List ℕ → ℕ → ℕ → List ℕ
+fixed map keys cells i c = set cells c (fix (graph map keys) cells i c (wanted map keys i))
+
+-- cells a became b, in which each item has its value
+pub record FilledAll (map : Map) (keys a b : List ℕ) : Type 0 where
+  pub valued : Valued (graph map keys) (map .t) (wanted map keys) b
+  pub clean : Clean (graph map keys) (map .t) (3 * map .m) b
+  pub beyond : Beyond (3 * map .m) a b

@@ -40,6 +40,10 @@ pub record Holds (t cap : ℕ) (s : ℕ → ℕ → Bool) (w : List ℕ) : Type 
   pub deg : (c : ℕ) → c < cap → getD w c 0 ≡ sizeOf (s c) t
   pub xr : (c : ℕ) → c < cap → getD w (cap + c) 0 ≡ xorOf (s c) t
 
+-- the first m places are 0
+abbrev pub Zeros : ℕ → List ℕ → Type 0
+Zeros m xs = (k : ℕ) → k < m → getD xs k 0 ≡ 0
+
 -- b is as a from place m on
 abbrev pub Beyond : ℕ → List ℕ → List ℕ → Type 0
 Beyond m a b = (k : ℕ) → m ≤ k → getD b k 0 ≡ getD a k 0

@@ -2,10 +2,6 @@
 use borrow.Author.Needs.{needs}
 use Rattle.maps.proofs.count.hash_at.Statement.{statement}
 use Rattle.maps.proofs.count.hash_at.Tie as tie
-use Rattle.maps.proofs.count.hash_at.Reads as reads
-use Rattle.maps.proofs.count.hash_at.Lts as lts
-use Rattle.items.proofs.item_at.Reads as item-at-reads
-use Rattle.words.proofs.hash.item_hash.Reads as item-hash-reads
 
 returns : tie.Need-returns
 returns c = cc

@@ -1,6 +1,6 @@
 -- `maps::count::put_in` meets its contract: the two stores, at the cell and at its xor, are those of the law `put-at`. Assumes nothing.
 use mathlib.Core.Path.{refl}
-use Prim.Native.Nat.{_+_, _-_}
+use Prim.Native.Nat.{_+_}
 use native.Mathlib.Omega.{arith}
 use denote.Ref.{now}
 use lib.ListN.{getD, length-set}
@@ -8,8 +8,6 @@ use Rattle.maps.proofs.Puts.{put-at}
 use borrow.Author.Needs.{needs}
 use Rattle.maps.proofs.count.put_in.Statement.{statement}
 use Rattle.maps.proofs.count.put_in.Tie as tie
-use Rattle.maps.proofs.count.put_in.Reads as reads
-use Rattle.maps.proofs.count.put_in.Lts as lts
 
 slice-read-work-2 : tie.Need-slice-read-work-2
 slice-read-work-2 c = simp length-set (omega arith)

@@ -1,6 +1,5 @@
 -- `maps::count::take_out` meets its contract: the two stores, at the cell and at its xor, are those of the law `take-at`. Assumes nothing.
-use mathlib.Core.Path.{refl}
-use Prim.Native.Nat.{_+_, _-_}
+use Prim.Native.Nat.{_-_}
 use native.Mathlib.Omega.{arith}
 use denote.Ref.{now}
 use lib.ListN.{getD, length-set}
@@ -8,8 +7,6 @@ use Rattle.maps.proofs.Puts.{take-at}
 use borrow.Author.Needs.{needs}
 use Rattle.maps.proofs.count.take_out.Statement.{statement}
 use Rattle.maps.proofs.count.take_out.Tie as tie
-use Rattle.maps.proofs.count.take_out.Reads as reads
-use Rattle.maps.proofs.count.take_out.Lts as lts
 
 slice-read-work-2 : tie.Need-slice-read-work-2
 slice-read-work-2 c = simp length-set (omega arith)

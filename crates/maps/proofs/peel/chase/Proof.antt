@@ -7,16 +7,13 @@ use native.Mathlib.Omega.{arith}
 use denote.Ref.{now}
 use lib.ListN.{length, getD}
 use Rattle.maps.specs.Jam.{Touches}
-use Rattle.maps.specs.Inner.Work.{Beyond, Queue, Tried, stOf}
-use Rattle.maps.specs.Inner.Ready.{graph, AtTurn}
+use Rattle.maps.specs.Inner.Work.{Beyond, Queue, stOf}
+use Rattle.maps.specs.Inner.Ready.{graph, AtTurn, TriedAt}
 use Rattle.maps.proofs.Peeling.{at-most}
 use Rattle.maps.proofs.Trying.{next-turn, queue-next}
 use borrow.Author.Needs.{needs}
 use Rattle.maps.proofs.peel.chase.Statement.{statement}
 use Rattle.maps.proofs.peel.chase.Tie as tie
-use Rattle.maps.proofs.peel.chase.Reads as reads
-use Rattle.maps.proofs.peel.chase.Lts as lts
-use Rattle.maps.proofs.peel.try_three.Reads as try-three-reads
 
 abbrev Inv-loop : tie.InvT-loop
 Inv-loop map keys left right work₀ start m n₀ q₀ work n q =
@@ -29,11 +26,13 @@ abbrev μ-loop : tie.MeasureT-loop
 abbrev start : tie.After-slice-known Inv-loop μ-loop → tie.Start Inv-loop μ-loop
 start k = k .before .before .before .before
 
--- the item of turn q
-peeled-at : (k : tie.In-loop Inv-loop μ-loop) → getD (k .before .loop .work) (6 * start (k .before .before) .args .map .m + k .before .loop .q) 0 < start (k .before .before) .args .map .t
+abbrev map-m : tie.At-loop Inv-loop μ-loop → ℕ
+map-m k = start (k .before) .args .map .m
+
+-- the item of turn q is one of the map's
+peeled-at : (k : tie.In-loop Inv-loop μ-loop) → getD (k .before .loop .work) (6 * map-m (k .before) + k .before .loop .q) 0 < start (k .before .before) .args .map .t
 peeled-at k =
-    let m = start (k .before .before) .args .map .m in
-    let x : 6 * m + k .before .loop .q ≡ 3 * m + 3 * m + k .before .loop .q = omega arith in
+    let x : 6 * map-m (k .before) + k .before .loop .q ≡ 3 * map-m (k .before) + 3 * map-m (k .before) + k .before .loop .q = omega arith in
     rw x (k .before .loop .inv .3 .peeled .order .small (k .before .loop .q) (k .loop-test .taken))
 
 loop-holds : tie.Need-loop-holds Inv-loop μ-loop
@@ -45,38 +44,32 @@ cast-i : tie.Need-cast-i Inv-loop μ-loop
 cast-i c = omega (arith, peeled-at (c .before), c .before .before .loop .inv .3 .ready .few)
 
 try-three-requires : tie.Need-try-three-requires Inv-loop μ-loop
-try-three-requires c κs =
-    let at-loop = c .before .before .before in
-    (at-loop .loop .inv .3, peeled-at (c .before .before))
+try-three-requires c κs = (c .before .before .before .loop .inv .3, peeled-at (c .before .before))
 
 loop-again : tie.Need-loop-again Inv-loop μ-loop
 loop-again c =
     let called = c .before .before in
     let at-loop = called .before .before .before .before in
-    let s = start (at-loop .before) in
-    let map = s .args .map in
-    let e = graph map (now (s .args .keys)) in
-    let cap = 3 * map .m in
+    let map = start (at-loop .before) .args .map in
+    let e = graph map (now (start (at-loop .before) .args .keys)) in
     let w : List ℕ = at-loop .loop .work in
-    let w′ : List ℕ = called .try-three .last .1 .1 .1 .1 .0 in
-    let n = at-loop .loop .n in
     let q = at-loop .loop .q in
-    let r = called .try-three .result in
-    let x : 6 * map .m + q ≡ cap + cap + q = omega arith in
-    let A : Tried e (map .t) cap (Touches e (stOf cap w q)) w n w′ r = rw x at (called .try-three .ensures) in
-    let g : n ≤ r = A .grows in (
+    let x : 6 * map .m + q ≡ 3 * map .m + 3 * map .m + q = omega arith in
+    let A : TriedAt map (now (start (at-loop .before) .args .keys)) (Touches e (stOf (3 * map .m) w q)) w (at-loop .loop .n) (called .try-three .last .1 .1 .1 .1 .0) (called .try-three .result) =
+    rw x at (called .try-three .ensures) in
+    let g : at-loop .loop .n ≤ called .try-three .result = A .grows in (
       omega arith,
       at-most (A .peeled),
       called .try-three .kept .1 .1 .1 .1 .0 ∙ at-loop .loop .inv .2,
       next-turn (at-loop .loop .inv .3) (called .try-three .kept .1 .1 .1 .1 .0) (A .peeled),
-      queue-next e (map .t) cap w q n w′ r (omega arith) (at-loop .loop .inv .4) A,
+      queue-next (omega arith) (at-loop .loop .inv .4) A,
       λ k l. A .beyond k (omega arith) ∙ at-loop .loop .inv .5 k l,
     )
 
 returns : tie.Need-returns Inv-loop μ-loop
 returns c =
-    let at-loop = c .before in
-    (at-loop .loop .inv .3, λ k l z. (let o = at-loop .loop .inv .4 k l z in omega arith), at-loop .loop .inv .5)
+    let inv = c .before .loop .inv in
+    record { turn = inv .3; stuck = λ k l z. (let o = inv .4 k l z in omega arith); beyond = inv .5 }
 
 pub chase-spec : {M : Type 1} → statement M
 chase-spec =

@@ -1,18 +1,13 @@
 -- `maps::peel::scan` meets its contract. The loop's invariant: the cells below c were tried. The measure is what is left of the cells. Assumes nothing.
-use mathlib.Core.Path.{_≡_, refl, sym, _∙_}
-use mathlib.Core.List.{List}
-use Prim.Native.Nat.{ℕ, _+_, _-_, _*_, _≤_, _<_}
+use mathlib.Core.Path.{_≡_, refl, _∙_}
+use Prim.Native.Nat.{_-_, _*_, _≤_, _<_}
 use native.Mathlib.Omega.{arith}
-use denote.Ref.{now}
 use lib.ListN.{length}
-use Rattle.maps.specs.Inner.Ready.{graph, TriedAt}
-use Rattle.maps.proofs.Trying.{next-turn, tried-none, tried-then, below-or-last}
+use Rattle.maps.specs.Inner.Ready.{TriedAt}
+use Rattle.maps.proofs.Trying.{next-turn, tried-none, tried-next}
 use borrow.Author.Needs.{needs}
 use Rattle.maps.proofs.peel.scan.Statement.{statement}
 use Rattle.maps.proofs.peel.scan.Tie as tie
-use Rattle.maps.proofs.peel.scan.Reads as reads
-use Rattle.maps.proofs.peel.scan.Lts as lts
-use Rattle.maps.proofs.peel.try_peel.Reads as try-peel-reads
 
 abbrev Inv-loop : tie.InvT-loop
 Inv-loop map keys left right work₀ m n₀ c₀ work n c =
@@ -25,9 +20,7 @@ abbrev start : tie.After-slice-known Inv-loop μ-loop → tie.Start Inv-loop μ-
 start k = k .before .before .before .before
 
 loop-holds : tie.Need-loop-holds Inv-loop μ-loop
-loop-holds c =
-    let s = c .before .before .before .before in
-    (omega arith, refl, tried-none (graph (s .args .map) (now (s .args .keys))) (s .args .map .t) (3 * s .args .map .m) (now (s .args .work)) 0 (s .pre .peeled))
+loop-holds c = (omega arith, refl, tried-none (c .before .before .before .before .pre .peeled))
 
 try-peel-requires : tie.Need-try-peel-requires Inv-loop μ-loop
 try-peel-requires c κs =
@@ -38,19 +31,12 @@ loop-again : tie.Need-loop-again Inv-loop μ-loop
 loop-again c =
     let called = c .before .before in
     let at-loop = called .before .before .before in
-    let s = start (at-loop .before) in
-    let x = at-loop .loop .c in (
-      omega arith,
-      called .try-peel .kept .1 .1 .1 .1 .0 ∙ at-loop .loop .inv .1,
-      tried-then (graph (s .args .map) (now (s .args .keys))) (s .args .map .t) (3 * s .args .map .m) (λ k. k < x) (λ k. x ≡ k) (λ k. k < x + 1) (now (s .args .work)) 0
-          (at-loop .loop .work) (at-loop .loop .n) (called .try-peel .last .1 .1 .1 .1 .0) (called .try-peel .result) (below-or-last x) (at-loop .loop .inv .2) (called .try-peel .ensures),
-    )
+    (omega arith, called .try-peel .kept .1 .1 .1 .1 .0 ∙ at-loop .loop .inv .1, tried-next (at-loop .loop .c) (at-loop .loop .inv .2) (called .try-peel .ensures))
 
 returns : tie.Need-returns Inv-loop μ-loop
 returns c =
     let at-loop = c .before in
-    let s = start (at-loop .before) in
-    let z : at-loop .loop .c ≡ 3 * s .args .map .m = omega arith in
+    let z : at-loop .loop .c ≡ 3 * start (at-loop .before) .args .map .m = omega arith in
     rw z at (at-loop .loop .inv .2)
 
 pub scan-spec : {M : Type 1} → statement M

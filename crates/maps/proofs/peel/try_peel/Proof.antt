@@ -1,19 +1,13 @@
 -- `maps::peel::try_peel` meets its contract: a turn where one item is left, and nothing else. Assumes nothing.
-use Prim.Native.Nat.{_*_}
-use denote.Ref.{now}
-use Rattle.maps.specs.Inner.Ready.{graph}
 use Rattle.maps.proofs.Trying.{not-tried}
 use borrow.Author.Needs.{needs}
 use Rattle.maps.proofs.peel.try_peel.Statement.{statement}
 use Rattle.maps.proofs.peel.try_peel.Tie as tie
-use Rattle.maps.proofs.peel.try_peel.Reads as reads
-use Rattle.maps.proofs.peel.try_peel.Lts as lts
-use Rattle.maps.proofs.peel.peel_at.Reads as peel-at-reads
 
 returns-2 : tie.Need-returns-2
 returns-2 c =
     let s = c .before .before .before .before .before .before in
-    not-tried (graph (s .args .map) (now (s .args .keys))) (s .args .map .t) (3 * s .args .map .m) (now (s .args .work)) (s .args .n) (s .args .c) (s .pre .0 .peeled) (c .if1 .left)
+    not-tried (s .args .c) (s .pre .0 .peeled) (c .if1 .left)
 
 pub try-peel-spec : {M : Type 1} → statement M
 try-peel-spec =
