@@ -16,7 +16,7 @@ use Rattle.maps.specs.declared.Map.{Map}
 use Rattle.maps.specs.Jam.{Touches, touch, Largest, sizeOf}
 use Rattle.maps.specs.Built.{workCount, Filled, Built, MapBuilt}
 use Rattle.maps.specs.Inner.Peel.{touchb, live, still}
-use Rattle.maps.specs.Inner.Work.{Peeled, Stuck, Beyond, xorOf, stOf, atOf}
+use Rattle.maps.specs.Inner.Work.{Peeled, Stuck, Beyond, xorOf, turnItem, turnCell}
 use Rattle.maps.specs.Inner.Fill.{valueOf, Valued, Clean}
 use Rattle.maps.specs.Inner.Ready.{Ready, PeeledOut, FilledAll}
 use Rattle.maps.proofs.Sets.{size-one, One}
@@ -25,15 +25,15 @@ use Rattle.maps.proofs.Puts.{spread, touch-below}
 use Rattle.maps.proofs.Clearing.{drop-cleared, drop-same, cleared-same}
 
 pub stuck-largest : {e : ℕ → ℕ → ℕ} {t cap n : ℕ} {w : List ℕ} → ((i c : ℕ) → Touches e i c → c < cap) → Peeled e t cap w n → Stuck cap w → (n ≡ t → ⊥)
-    → Largest e t (live (stOf cap w) n)
+    → Largest e t (live (turnItem cap w) n)
 stuck-largest {e} {t} {cap} {n} {w} below P S h =
-    rest-largest e t (stOf cap w) (atOf cap t w) n (P .order) h
+    rest-largest e t (turnItem cap w) (turnCell cap t w) n (P .order) h
     (λ c z.
-    let st = stOf cap w in
+    let st = turnItem cap w in
     let i = xorOf (still e st n c) t in
     let o : One (still e st n c) t i = size-one (still e st n c) t z in
     let l : c < cap = below i c (touched e i c (and-right (live st n i) (touchb e i c) (o .passes))) in
-    S c l (P .holds .deg c l ∙ z))
+    S c l (P .holds .count c l ∙ z))
 
 module _ (seed : ℕ) (items values : List ℕ) where
   abbrev e : ℕ → ℕ → ℕ
@@ -47,19 +47,19 @@ module _ (seed : ℕ) (items values : List ℕ) where
     built-filled : n ≡ t → Filled seed items values a b → Built seed items values a u (t - n) b v
     built-filled q F =
         record {
-          accepted = λ o. (all-peeled e t (stOf (cellCount t) w) (atOf (cellCount t) t w) n (P .order) q, F);
+          accepted = λ o. (all-peeled e t (turnItem (cellCount t) w) (turnCell (cellCount t) t w) n (P .order) q, F);
           refused = λ o. absurd (omega arith);
           swept = sw;
         }
 
     built-jammed : Segment (segment t) → (n ≡ t → ⊥) → Stuck (cellCount t) w → b ≡ cleared (cellCount t) a → Built seed items values a u (t - n) b v
     built-jammed S q stuck same =
-        let left : sizeOf (live (stOf (cellCount t) w) n) t + n ≡ t = P .order .left in
+        let left : sizeOf (live (turnItem (cellCount t) w) n) t + n ≡ t = P .order .left in
         record {
           accepted = λ o. absurd (q (omega arith));
           refused = λ o. (
             (
-              live (stOf (cellCount t) w) n,
+              live (turnItem (cellCount t) w) n,
               stuck-largest (λ i c h. touch-below c (spread (segment t) (λ k. itemHash (getD items k 0) seed) i S) h) P stuck q,
               omega arith,
             ),

@@ -19,12 +19,12 @@ pub counted-none : (map : Map) (keys w : List ℕ) → Zeros (6 * map .m) w → 
 unfolding sizeOf xorOf
 counted-none map keys w h =
     record {
-      holds = record { deg = λ c l. h c (omega arith); xr = λ c l. h (3 * map .m + c) (omega arith) };
+      holds = record { count = λ c l. h c (omega arith); xor = λ c l. h (3 * map .m + c) (omega arith) };
       beyond = λ k l. refl;
     }
 
 pub counted-few : {map : Map} {keys : List ℕ} {i : ℕ} {a b : List ℕ} → Counted map keys i a b → (c : ℕ) → c < 3 * map .m → i < 65535 → getD b c 0 < 65535
-counted-few {map} {keys} {i} C c l m = omega (arith, C .holds .deg c l, size-le (λ j. touchb (graph map keys) j c) i)
+counted-few {map} {keys} {i} C c l m = omega (arith, C .holds .count c l, size-le (λ j. touchb (graph map keys) j c) i)
 
 pub counted-more : {map : Map} {keys : List ℕ} {i : ℕ} {a b d : List ℕ} → Counted map keys i a b → Put (graph map keys) (3 * map .m) i b d
     → Counted map keys (i + 1) a d
@@ -33,8 +33,8 @@ counted-more {map} {keys} {i} C P =
     rw add-one
     (record {
       holds = record {
-        deg = λ c l. P .deg c l ∙ ap (moreIf (touchb (graph map keys) i c)) (C .holds .deg c l);
-        xr = λ c l. P .xr c l ∙ ap (xorIf (touchb (graph map keys) i c) i) (C .holds .xr c l);
+        count = λ c l. P .count c l ∙ ap (moreIf (touchb (graph map keys) i c)) (C .holds .count c l);
+        xor = λ c l. P .xor c l ∙ ap (xorIf (touchb (graph map keys) i c) i) (C .holds .xor c l);
       };
       beyond = λ k l. P .rest k (omega arith) ∙ C .beyond k l;
     })

@@ -1,6 +1,7 @@
 -- Filling the cells: one store gives an item its value, and the items that do not touch the cell keep theirs.
 --     value-here, value-there      an item's value after a store
---     peeled-at                    what the work holds for a turn
+--     stored                       the store of `fill_turn`
+--     cell-below                   a turn's cell is one of the map's
 --     fill-none, turn, fill-all    what the loop of `fill_all` keeps, and what it ends with
 -- Assumes nothing.
 use mathlib.Core.Path.{_≡_, refl, sym, ap, ap₂, _∙_, subst}
@@ -13,9 +14,10 @@ use lib.ListN.{length, getD, set}
 use lib.Seq.{getD-set-same, getD-set-other}
 use lib.Bits.{bitXor}
 use Rattle.words.proofs.Xor.{xor-sort}
+use Rattle.cells.specs.Cells.{valueAt}
 use Rattle.maps.specs.declared.Map.{Map}
 use Rattle.maps.specs.Jam.{Touches}
-use Rattle.maps.specs.Inner.Work.{Zeros, Beyond, stOf, atOf}
+use Rattle.maps.specs.Inner.Work.{Zeros, Beyond, turnItem, turnCell}
 use Rattle.maps.specs.Inner.Fill.{valueOf, Valued, Clean, fix}
 use Rattle.maps.specs.Inner.Ready.{hashOf, graph, wanted, Spread, AtTurn, fixed, FilledAll}
 use Rattle.maps.proofs.Jams.{live-le, live-not, live-out, none-left}
@@ -64,63 +66,60 @@ value-there e cells j c v h =
     (getD-set-other cells c (e 1 j) v 0 (λ z. h (inr (inl z))))
     (getD-set-other cells c (e 2 j) v 0 (λ z. h (inr (inr z))))
 
--- i is the item of turn p, and c its cell
-pub record PeeledAt (map : Map) (keys w : List ℕ) (p i c : ℕ) : Type 0 where
-  pub item : i ≡ stOf (3 * map .m) w p
-  pub cell : c ≡ atOf (3 * map .m) (map .t) w p
-  pub small : i < map .t
-  pub here : Touches (graph map keys) i c
-  pub spread : Spread (graph map keys) (3 * map .m) i
+-- the store of `fill_turn`: i and c are the turn's item and cell as they were read, h its hash, v its value before and y the wanted one
+pub stored : (map : Map) (keys w b : List ℕ) (p i c h v y : ℕ) → i ≡ turnItem (3 * map .m) w p → c ≡ turnCell (3 * map .m) (map .t) w p → h ≡ hashOf map keys i
+    → v ≡ valueAt (map .m) b h → y ≡ wanted map keys i → set b c (bitXor (bitXor (getD b c 0) y) v) ≡ fixed map keys w b p
+unfolding valueOf valueAt
+stored map keys w b p i c h v y ei ec eh ev ey = rw (ev, ey, eh, ec, ei)
 
 -- what the loop of `fill_all` keeps: the items of the turns from p on have their values, and only cells that items touch have changed
 pub record FilledFrom (map : Map) (keys w : List ℕ) (p : ℕ) (a b : List ℕ) : Type 0 where
-  pub valued : (q : ℕ) → p ≤ q → q < map .t → valueOf (graph map keys) b (stOf (3 * map .m) w q) ≡ wanted map keys (stOf (3 * map .m) w q)
+  pub valued : (q : ℕ) → p ≤ q → q < map .t → valueOf (graph map keys) b (turnItem (3 * map .m) w q) ≡ wanted map keys (turnItem (3 * map .m) w q)
   pub clean : Clean (graph map keys) (map .t) (3 * map .m) b
   pub beyond : Beyond (3 * map .m) a b
 
 -- all items are peeled
 module _ {map : Map} {keys left right w : List ℕ} (A : AtTurn map keys left right w (map .t)) where
   abbrev St : ℕ → ℕ
-  St = stOf (3 * map .m) w
+  St = turnItem (3 * map .m) w
+
+  abbrev At : ℕ → ℕ
+  At = turnCell (3 * map .m) (map .t) w
 
   -- an item peeled later does not touch the cell of turn p
-  later : (p q : ℕ) → p < q → q < map .t → Touches (graph map keys) (St q) (atOf (3 * map .m) (map .t) w p) → ⊥
+  later : (p q : ℕ) → p < q → q < map .t → Touches (graph map keys) (St q) (At p) → ⊥
   later p q l k h =
       let o = A .peeled .order in
       live-not St q (St q) (o .fresh q k) p l (sym (o .alone p (omega arith) (St q) (o .small q k) (live-le St p q (St q) (omega arith) (o .fresh q k)) h))
 
-  pub peeled-at : (p x y : ℕ) → p < map .t → x ≡ 6 * map .m + p → y ≡ 6 * map .m + map .t + p → PeeledAt map keys w p (getD w x 0) (getD w y 0)
-  peeled-at p x y l ex ey =
-      let o = A .peeled .order in
-      let qx : x ≡ 3 * map .m + 3 * map .m + p = omega arith in
-      let qy : y ≡ 3 * map .m + 3 * map .m + map .t + p = omega arith in
-      record {
-        item = rw qx;
-        cell = rw qy;
-        small = rw qx (o .small p l);
-        here = rw (qx, qy) (o .here p l);
-        spread = spread (map .m) (hashOf map keys) (getD w x 0) (A .ready .fits);
-      }
+  item-spread : (i : ℕ) → Spread (graph map keys) (3 * map .m) i
+  item-spread i = spread (map .m) (hashOf map keys) i (A .ready .fits)
+
+  pub cell-below : (p : ℕ) → p < map .t → At p < 3 * map .m
+  cell-below p l = touch-below (At p) (item-spread (St p)) (A .peeled .order .here p l)
 
   pub fill-none : (p : ℕ) {a : List ℕ} → map .t ≤ p → Zeros (3 * map .m) a → FilledFrom map keys w p a a
   unfolding Clean
   fill-none p m h = record { valued = λ q l n. absurd (omega arith); clean = λ k l u. h k l; beyond = λ k l. refl }
 
-  pub turn : {p i c : ℕ} {a b b′ : List ℕ} → PeeledAt map keys w p i c → 3 * map .m ≤ length b → FilledFrom map keys w (p + 1) a b → b′ ≡ fixed map keys b i c
+  pub turn : {p : ℕ} {a b b′ : List ℕ} → p < map .t → 3 * map .m ≤ length b → FilledFrom map keys w (p + 1) a b → b′ ≡ fixed map keys w b p
       → FilledFrom map keys w p a b′
   unfolding Clean
-  turn {p} {i} {c} {a} {b} T l F z =
+  turn {p} {a} {b} pt l F z =
       let e = graph map keys in
+      let o = A .peeled .order in
+      let i = St p in
+      let c = At p in
       let v = fix e b i c (wanted map keys i) in
-      let below : c < 3 * map .m = touch-below c (T .spread) (T .here) in
+      let below : c < 3 * map .m = cell-below p pt in
       rw z
       (record {
         valued = λ q pq qt.
             ⊎-elim
-            (λ (x : p ≡ q). rw (← x, ← T .item) (value-here e b i c (wanted map keys i) (T .spread) (omega arith) (T .here)))
-            (λ (x : p < q). value-there e b (St q) c v (λ h. later p q x qt (rw (T .cell) at h)) ∙ F .valued q (omega arith) qt)
+            (λ (x : p ≡ q). rw (← x) (value-here e b i c (wanted map keys i) (item-spread i) (omega arith) (o .here p pt)))
+            (λ (x : p < q). value-there e b (St q) c v (later p q x qt) ∙ F .valued q (omega arith) qt)
             (eq-or-lt-of-le pq);
-        clean = λ k m u. getD-set-other b c k v 0 (λ x. u i (T .small) (rw x (T .here))) ∙ F .clean k m u;
+        clean = λ k m u. getD-set-other b c k v 0 (λ x. u i (o .small p pt) (rw x (o .here p pt))) ∙ F .clean k m u;
         beyond = λ k m. getD-set-other b c k v 0 (λ x. omega arith) ∙ F .beyond k m;
       })
 
@@ -130,7 +129,7 @@ module _ {map : Map} {keys left right w : List ℕ} (A : AtTurn map keys left ri
       record {
         valued = λ i l.
             let r : (p : ℕ) × (p < map .t) × (St p ≡ i) =
-            live-out St (map .t) i (none-left (graph map keys) (map .t) St (atOf (3 * map .m) (map .t) w) (map .t) (A .peeled .order) refl i l) in
+            live-out St (map .t) i (none-left (graph map keys) (map .t) St At (map .t) (A .peeled .order) refl i l) in
             subst (λ (j : ℕ). valueOf (graph map keys) b j ≡ wanted map keys j) (r .2) (F .valued (r .0) (omega arith) (r .1));
         clean = F .clean;
         beyond = F .beyond;

@@ -1,4 +1,9 @@
 -- The laws of the definitions in specs/.
+--   Sets:     the size of a set of items, and the xor of its numbers       Jams:     jams hold no peeled items (J4, J5)
+--   Puts:     an item put in at its cells, and taken out                   Counting: all items put in (J1)
+--   Peeling:  one item peeled (J1, J2)                                     Trying:   cells tried until none has one item left (J3)
+--   Filling:  the cells filled from the last turn to the first (J6)        Clearing: memory cleared over a named length
+--   Building: what a build does is what it promises                        Determined: what the promise decides
 pub mod Sets
 pub mod Jams
 pub mod Puts
@@ -8,4 +13,4 @@ pub mod Trying
 pub mod Filling
 pub mod Clearing
 pub mod Building
-pub mod Deciding
+pub mod Determined

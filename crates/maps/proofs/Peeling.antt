@@ -19,7 +19,7 @@ use lib.ListN.{length, getD, set, length-set}
 use lib.Seq.{getD-set-same, getD-set-other}
 use Rattle.maps.specs.Jam.{Touches, sizeOf}
 use Rattle.maps.specs.Inner.Peel.{touchb, live, Peeling, still}
-use Rattle.maps.specs.Inner.Work.{Put, Holds, Peeled, Tried, moreIf, xorIf, xorOf, stOf, atOf}
+use Rattle.maps.specs.Inner.Work.{Put, Holds, Peeled, Tried, moreIf, xorIf, xorOf, turnItem, turnCell}
 use Rattle.maps.proofs.Sets.{size-one, One, Without, size-less, xor-less, size-zero, clash, true-or-false, last-or-below, xor-if-twice}
 use Rattle.maps.proofs.Jams.{and-left, and-right, and-both, touched, touches, live-ext}
 
@@ -35,11 +35,11 @@ pub record OneLeft (e : ℕ → ℕ → ℕ) (t : ℕ) (st : ℕ → ℕ) (n c i
   pub only : (j : ℕ) → j < t → live st n j ≡ true → Touches e j c → j ≡ i
 
 pub one-left : {e : ℕ → ℕ → ℕ} {t cap n : ℕ} {w : List ℕ} (c : ℕ) → Peeled e t cap w n → c < cap → getD w c 0 ≡ 1
-    → OneLeft e t (stOf cap w) n c (getD w (cap + c) 0)
+    → OneLeft e t (turnItem cap w) n c (getD w (cap + c) 0)
 one-left {e} {t} {cap} {n} {w} c P l d =
-    let st = stOf cap w in
+    let st = turnItem cap w in
     let i = getD w (cap + c) 0 in
-    let o : One (still e st n c) t i = rw (P .holds .xr c l) (size-one (still e st n c) t (sym (P .holds .deg c l) ∙ d)) in
+    let o : One (still e st n c) t i = rw (P .holds .xor c l) (size-one (still e st n c) t (sym (P .holds .count c l) ∙ d)) in
     let lv : live st n i ≡ true = and-left (live st n i) (touchb e i c) (o .passes) in
     let some : ¬ (sizeOf (live st n) t ≡ 0) = λ z. clash lv (size-zero (live st n) t z i (o .below)) in
     record {
@@ -50,11 +50,11 @@ one-left {e} {t} {cap} {n} {w} c P l d =
       only = λ j m a b. o .only j m (and-both a (touches e j c b));
     }
 
-pub left-counted : {e : ℕ → ℕ → ℕ} {t cap n : ℕ} {w : List ℕ} (i k : ℕ) → Peeled e t cap w n → i < t → live (stOf cap w) n i ≡ true → k < cap
+pub left-counted : {e : ℕ → ℕ → ℕ} {t cap n : ℕ} {w : List ℕ} (i k : ℕ) → Peeled e t cap w n → i < t → live (turnItem cap w) n i ≡ true → k < cap
     → Touches e i k → 0 < getD w k 0
 left-counted {e} {t} {cap} {n} {w} i k P l v m h =
     let some : ¬ (getD w k 0 ≡ 0) =
-    λ z. clash (and-both v (touches e i k h)) (size-zero (still e (stOf cap w) n k) t (sym (P .holds .deg k m) ∙ z) i l) in
+    λ z. clash (and-both v (touches e i k h)) (size-zero (still e (turnItem cap w) n k) t (sym (P .holds .count k m) ∙ z) i l) in
     omega arith
 
 -- who is left after one more turn, at which i was peeled
@@ -95,10 +95,10 @@ module _ {e : ℕ → ℕ → ℕ} {t cap n : ℕ} {w w′ : List ℕ} (c x y : 
   W₁ = set (set w x I) y c
 
   abbrev St : ℕ → ℕ
-  St = stOf cap w
+  St = turnItem cap w
 
   abbrev St′ : ℕ → ℕ
-  St′ = stOf cap w′
+  St′ = turnItem cap w′
 
   O : OneLeft e t St n c I
   O = one-left c P l d
@@ -111,7 +111,7 @@ module _ {e : ℕ → ℕ → ℕ} {t cap n : ℕ} {w w′ : List ℕ} (c x y : 
       let r : n < t = O .room in
       sym (R .rest (cap + cap + p) (omega arith)) ∙ old (cap + cap + p) (λ z. omega arith) (λ z. omega arith)
 
-  at-kept : (p : ℕ) → p < n → atOf cap t w′ p ≡ atOf cap t w p
+  at-kept : (p : ℕ) → p < n → turnCell cap t w′ p ≡ turnCell cap t w p
   at-kept p m =
       let r : n < t = O .room in
       sym (R .rest (cap + cap + t + p) (omega arith)) ∙ old (cap + cap + t + p) (λ z. omega arith) (λ z. omega arith)
@@ -123,18 +123,18 @@ module _ {e : ℕ → ℕ → ℕ} {t cap n : ℕ} {w w′ : List ℕ} (c x y : 
       ∙ getD-set-other (set w x I) y (cap + cap + n) c 0 (λ z. omega arith)
       ∙ rw (← ex) (getD-set-same w x I 0 (omega arith))
 
-  at-top : atOf cap t w′ n ≡ c
+  at-top : turnCell cap t w′ n ≡ c
   at-top =
       let r : n < t = O .room in
       sym (R .rest (cap + cap + t + n) (omega arith)) ∙ rw (← ey) (getD-set-same (set w x I) y c 0 (simp length-set (omega arith)))
 
-  deg-step : (k : ℕ) → k < cap → getD w k 0 ≡ moreIf (touchb e I k) (getD w′ k 0)
-  deg-step k m = sym (old k (λ z. omega arith) (λ z. omega arith)) ∙ R .deg k m
+  count-step : (k : ℕ) → k < cap → getD w k 0 ≡ moreIf (touchb e I k) (getD w′ k 0)
+  count-step k m = sym (old k (λ z. omega arith) (λ z. omega arith)) ∙ R .count k m
 
-  xr-step : (k : ℕ) → k < cap → getD w′ (cap + k) 0 ≡ xorIf (touchb e I k) I (getD w (cap + k) 0)
-  xr-step k m =
+  xor-step : (k : ℕ) → k < cap → getD w′ (cap + k) 0 ≡ xorIf (touchb e I k) I (getD w (cap + k) 0)
+  xor-step k m =
       sym (xor-if-twice (touchb e I k) I (getD w′ (cap + k) 0))
-      ∙ ap (xorIf (touchb e I k) I) (sym (R .xr k m) ∙ old (cap + k) (λ z. omega arith) (λ z. omega arith))
+      ∙ ap (xorIf (touchb e I k) I) (sym (R .xor k m) ∙ old (cap + k) (λ z. omega arith) (λ z. omega arith))
 
   gone : (k : ℕ) → Without (still e St n k) (still e St′ (suc n) k) I (touchb e I k)
   gone k = still-without St St′ n I st-kept st-top e k (O .left)
@@ -142,12 +142,12 @@ module _ {e : ℕ → ℕ → ℕ} {t cap n : ℕ} {w w′ : List ℕ} (c x y : 
   holds′ : Holds t cap (still e St′ (suc n)) w′
   holds′ =
       record {
-        deg = λ k m.
+        count = λ k m.
             more-inj (touchb e I k) (getD w′ k 0) (sizeOf (still e St′ (suc n) k) t)
-            (sym (deg-step k m) ∙ P .holds .deg k m ∙ size-less (still e St n k) (still e St′ (suc n) k) I t (touchb e I k) (O .below) (gone k));
-        xr = λ k m.
-            xr-step k m
-            ∙ ap (xorIf (touchb e I k) I) (P .holds .xr k m)
+            (sym (count-step k m) ∙ P .holds .count k m ∙ size-less (still e St n k) (still e St′ (suc n) k) I t (touchb e I k) (O .below) (gone k));
+        xor = λ k m.
+            xor-step k m
+            ∙ ap (xorIf (touchb e I k) I) (P .holds .xor k m)
             ∙ sym (xor-less (still e St n k) (still e St′ (suc n) k) I t (touchb e I k) (O .below) (gone k));
       }
 
@@ -155,14 +155,14 @@ module _ {e : ℕ → ℕ → ℕ} {t cap n : ℕ} {w w′ : List ℕ} (c x y : 
   live-below p j m = live-ext St′ St p j (λ q k. st-kept q (omega arith))
 
   -- what held of each turn below n, and holds of turn n, holds of each turn below suc n
-  each : (F : ℕ → ℕ → ℕ → Type 0) → ((p : ℕ) → p < n → F p (St p) (atOf cap t w p)) → F n I c → (p : ℕ) → p < suc n → F p (St′ p) (atOf cap t w′ p)
+  each : (F : ℕ → ℕ → ℕ → Type 0) → ((p : ℕ) → p < n → F p (St p) (turnCell cap t w p)) → F n I c → (p : ℕ) → p < suc n → F p (St′ p) (turnCell cap t w′ p)
   each F below here p m =
       ⊎-elim
       (λ (z : p ≡ n). rw (z, st-top, at-top) here)
       (λ (z : p < n). rw (st-kept p z, at-kept p z) (below p z))
       (last-or-below m)
 
-  order′ : Peeling e t St′ (atOf cap t w′) (suc n)
+  order′ : Peeling e t St′ (turnCell cap t w′) (suc n)
   order′ =
       let o = P .order in
       record {
@@ -189,7 +189,7 @@ module _ {e : ℕ → ℕ → ℕ} {t cap n : ℕ} {w w′ : List ℕ} (c x y : 
         others = λ k m z. ⊎-elim
             (λ (b : touchb e I k ≡ true). inr (n, omega arith, omega arith, subst (λ (v : ℕ). Touches e v k) (sym st-top) (touched e I k b)))
             (λ (b : touchb e I k ≡ false).
-            inl (deg-step k m ∙ rw b z, λ (q : c ≡ k). clash (ap (touchb e I) (sym q) ∙ touches e I c (O .here)) b))
+            inl (count-step k m ∙ rw b z, λ (q : c ≡ k). clash (ap (touchb e I) (sym q) ∙ touches e I c (O .here)) b))
             (true-or-false (touchb e I k));
         beyond = λ k m. sym (R .rest k (omega arith)) ∙ old k (λ z. omega arith) (λ z. omega arith);
       })
@@ -210,5 +210,5 @@ start-peeled e {t} H =
         alone = λ p l. absurd (omega arith);
         left = omega (arith, all-left t);
       };
-      holds = record { deg = H .deg; xr = H .xr };
+      holds = record { count = H .count; xor = H .xor };
     }

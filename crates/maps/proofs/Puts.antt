@@ -80,13 +80,13 @@ module _ (w : List ℕ) (cap c v i : ℕ) (l : c < cap) (m : cap + cap ≤ lengt
   at-rest k p q = getD-set-other (set w c v) (cap + c) k (bitXor (getD (set w c v) (cap + c) 0) i) 0 q ∙ getD-set-other w c k v 0 p
 
   pub put-at : v ≡ getD w c 0 + 1 → PutAt cap c i w (stored w cap c v i)
-  put-at e = record { deg = at-c ∙ e; xr = at-x; rest = at-rest }
+  put-at e = record { count = at-c ∙ e; xor = at-x; rest = at-rest }
 
   pub take-at : getD w c 0 ≡ v + 1 → PutAt cap c i (stored w cap c v i) w
   take-at e =
       record {
-        deg = e ∙ ap (λ (y : ℕ). y + 1) (sym at-c);
-        xr = sym (ap (λ (y : ℕ). bitXor y i) at-x ∙ xor-cancel (getD w (cap + c) 0) i);
+        count = e ∙ ap (λ (y : ℕ). y + 1) (sym at-c);
+        xor = sym (ap (λ (y : ℕ). bitXor y i) at-x ∙ xor-cancel (getD w (cap + c) 0) i);
         rest = λ k p q. sym (at-rest k p q);
       }
 
@@ -95,17 +95,17 @@ other-kept y P l h = P .rest y h (λ z. omega arith)
 
 -- one cell, by the test
 module _ (cap x i : ℕ) (a b : List ℕ) (P : PutAt cap x i a b) (l : x < cap) where
-  deg-one : (c : ℕ) → c < cap → getD b c 0 ≡ moreIf (eqb x c) (getD a c 0)
-  deg-one c m =
+  count-one : (c : ℕ) → c < cap → getD b c 0 ≡ moreIf (eqb x c) (getD a c 0)
+  count-one c m =
       ⊎-elim
-      (λ (t : eqb x c ≡ true). rw (t, ← eqb-true x c t, ← add-one) (P .deg))
+      (λ (t : eqb x c ≡ true). rw (t, ← eqb-true x c t, ← add-one) (P .count))
       (λ (t : eqb x c ≡ false). rw t (other-kept c P m (λ z. eqb-false x c t (sym z))))
       (true-or-false (eqb x c))
 
-  xr-one : (c : ℕ) → c < cap → getD b (cap + c) 0 ≡ xorIf (eqb x c) i (getD a (cap + c) 0)
-  xr-one c m =
+  xor-one : (c : ℕ) → c < cap → getD b (cap + c) 0 ≡ xorIf (eqb x c) i (getD a (cap + c) 0)
+  xor-one c m =
       ⊎-elim
-      (λ (t : eqb x c ≡ true). rw (t, ← eqb-true x c t) (P .xr))
+      (λ (t : eqb x c ≡ true). rw (t, ← eqb-true x c t) (P .xor))
       (λ (t : eqb x c ≡ false). rw t (P .rest (cap + c) (λ z. omega arith) (λ z. eqb-false x c t (omega arith))))
       (true-or-false (eqb x c))
 
@@ -137,13 +137,13 @@ pub puts : {e : ℕ → ℕ → ℕ} {cap i : ℕ} {a b d f : List ℕ} → Spre
 unfolding touchb
 puts {e} {cap} {i} {a} {b} {d} {f} S P Q R =
     record {
-      deg = λ c l.
-          deg-one cap (e 2 i) i d f R (omega arith) c l
-          ∙ ap (moreIf (eqb (e 2 i) c)) (deg-one cap (e 1 i) i b d Q (omega arith) c l ∙ ap (moreIf (eqb (e 1 i) c)) (deg-one cap (e 0 i) i a b P (omega arith) c l))
+      count = λ c l.
+          count-one cap (e 2 i) i d f R (omega arith) c l
+          ∙ ap (moreIf (eqb (e 2 i) c)) (count-one cap (e 1 i) i b d Q (omega arith) c l ∙ ap (moreIf (eqb (e 1 i) c)) (count-one cap (e 0 i) i a b P (omega arith) c l))
           ∙ once moreIf (λ n. refl) (eqb (e 0 i) c) (eqb (e 1 i) c) (eqb (e 2 i) c) (getD a c 0) (excluded c S);
-      xr = λ c l.
-          xr-one cap (e 2 i) i d f R (omega arith) c l
-          ∙ ap (xorIf (eqb (e 2 i) c) i) (xr-one cap (e 1 i) i b d Q (omega arith) c l ∙ ap (xorIf (eqb (e 1 i) c) i) (xr-one cap (e 0 i) i a b P (omega arith) c l))
+      xor = λ c l.
+          xor-one cap (e 2 i) i d f R (omega arith) c l
+          ∙ ap (xorIf (eqb (e 2 i) c) i) (xor-one cap (e 1 i) i b d Q (omega arith) c l ∙ ap (xorIf (eqb (e 1 i) c) i) (xor-one cap (e 0 i) i a b P (omega arith) c l))
           ∙ once (λ t. xorIf t i) (λ n. refl) (eqb (e 0 i) c) (eqb (e 1 i) c) (eqb (e 2 i) c) (getD a (cap + c) 0) (excluded c S);
       rest = λ k l. R .rest k (λ z. omega arith) (λ z. omega arith) ∙ Q .rest k (λ z. omega arith) (λ z. omega arith) ∙ P .rest k (λ z. omega arith) (λ z. omega arith);
     }
@@ -159,7 +159,7 @@ module _ {e : ℕ → ℕ → ℕ} {cap i : ℕ} {at : Touched} (C : CellsAt e c
   unfolding touchb
   put-as P =
       record {
-        deg = λ c l. rw (← C .first, ← C .second, ← C .third) (P .deg c l);
-        xr = λ c l. rw (← C .first, ← C .second, ← C .third) (P .xr c l);
+        count = λ c l. rw (← C .first, ← C .second, ← C .third) (P .count c l);
+        xor = λ c l. rw (← C .first, ← C .second, ← C .third) (P .xor c l);
         rest = P .rest;
       }

@@ -15,7 +15,7 @@ use lib.ListN.{length, getD}
 use Rattle.maps.specs.declared.Map.{Map}
 use Rattle.maps.specs.declared.Touched.{Touched}
 use Rattle.maps.specs.Jam.{Touches}
-use Rattle.maps.specs.Inner.Work.{Peeled, Tried, Queue, stOf}
+use Rattle.maps.specs.Inner.Work.{Peeled, Tried, Queue, turnItem}
 use Rattle.maps.specs.Inner.Ready.{graph, CellsAt, Ready, Counted, AtTurn}
 use Rattle.maps.proofs.Peeling.{start-peeled}
 
@@ -54,10 +54,10 @@ module _ {e : ℕ → ℕ → ℕ} {t cap : ℕ} where
             (λ (h : (getD b k 0 ≡ 1) × (S k → ⊥)).
             ⊎-elim
             (λ (h′ : (getD a k 0 ≡ 1) × (T k → ⊥)). inl (h′ .0, λ (v : U k). ⊎-elim (λ (x : T k). h′ .1 x) (λ (x : S k). h .1 x) (f k v)))
-            (λ (h′ : (p : ℕ) × (n ≤ p) × (p < r) × Touches e (stOf cap b p) k).
+            (λ (h′ : (p : ℕ) × (n ≤ p) × (p < r) × Touches e (turnItem cap b p) k).
             inr (h′ .0, h′ .1, omega arith, subst (λ (v : ℕ). Touches e v k) (sym (B .kept (h′ .0) (h′ .2))) (h′ .3)))
             (A .others k m (h .0)))
-            (λ (h : (p : ℕ) × (r ≤ p) × (p < u) × Touches e (stOf cap d p) k). inr (h .0, omega arith, h .2, h .3))
+            (λ (h : (p : ℕ) × (r ≤ p) × (p < u) × Touches e (turnItem cap d p) k). inr (h .0, omega arith, h .2, h .3))
             (B .others k m z);
         beyond = λ k m. B .beyond k m ∙ A .beyond k m;
       }
@@ -82,18 +82,18 @@ module _ {e : ℕ → ℕ → ℕ} {t cap : ℕ} where
   tried-queue {a} {b} {r} A k m z =
       ⊎-elim
       (λ (h : (getD a k 0 ≡ 1) × (k < cap → ⊥)). absurd (h .1 m))
-      (λ (h : (p : ℕ) × (0 ≤ p) × (p < r) × Touches e (stOf cap b p) k). h)
+      (λ (h : (p : ℕ) × (0 ≤ p) × (p < r) × Touches e (turnItem cap b p) k). h)
       (A .others k m z)
 
-  pub queue-next : {a b : List ℕ} {q n r : ℕ} → q < n → Queue e cap a q n → Tried e t cap (Touches e (stOf cap a q)) a n b r → Queue e cap b (q + 1) r
+  pub queue-next : {a b : List ℕ} {q n r : ℕ} → q < n → Queue e cap a q n → Tried e t cap (Touches e (turnItem cap a q)) a n b r → Queue e cap b (q + 1) r
   queue-next {a} {b} {q} {n} {r} l Q A k m z =
       let g : n ≤ r = A .grows in
       ⊎-elim
-      (λ (h : (getD a k 0 ≡ 1) × (Touches e (stOf cap a q) k → ⊥)).
-      let o : (p : ℕ) × (q ≤ p) × (p < n) × Touches e (stOf cap a p) k = Q k m (h .0) in
+      (λ (h : (getD a k 0 ≡ 1) × (Touches e (turnItem cap a q) k → ⊥)).
+      let o : (p : ℕ) × (q ≤ p) × (p < n) × Touches e (turnItem cap a p) k = Q k m (h .0) in
       ⊎-elim
-      (λ (x : q ≡ o .0). absurd (h .1 (subst (λ (p : ℕ). Touches e (stOf cap a p) k) (sym x) (o .3))))
+      (λ (x : q ≡ o .0). absurd (h .1 (subst (λ (p : ℕ). Touches e (turnItem cap a p) k) (sym x) (o .3))))
       (λ (x : q < o .0). (o .0, omega arith, omega arith, subst (λ (v : ℕ). Touches e v k) (sym (A .kept (o .0) (o .2))) (o .3)))
       (eq-or-lt-of-le (o .1)))
-      (λ (h : (p : ℕ) × (n ≤ p) × (p < r) × Touches e (stOf cap b p) k). (h .0, omega arith, h .2, h .3))
+      (λ (h : (p : ℕ) × (n ≤ p) × (p < r) × Touches e (turnItem cap b p) k). (h .0, omega arith, h .2, h .3))
       (A .others k m z)

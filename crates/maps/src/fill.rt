@@ -1,27 +1,33 @@
 // Fills the cells once all items are peeled, the item peeled last first: an item's cell is touched by none that was peeled later.
 ghost use mathlib.Core.Path.{_≡_};
-ghost use Prim.Native.Nat.{ℕ, _+_, _*_, _<_, _≤_};
+ghost use Prim.Native.Nat.{_*_, _≤_, _<_};
 ghost use lib.ListN.{length};
 ghost use Rattle.maps.specs.Inner.Work.{Zeros};
-ghost use Rattle.maps.specs.Inner.Ready.{fixed, Ready, AtTurn, FilledAll};
+ghost use Rattle.maps.specs.Inner.Ready.{AtTurn, fixed, FilledAll};
 use crate::Map;
 use crate::count;
 
-// Gives item i its value by a store at cell c.
-fn fix_one(
+// Gives the item of turn p its value, by a store at its cell.
+fn fill_turn(
     map: Map,
     keys: &[u64],
     left: &[u16],
     right: &[u16],
     cells: &mut [u16],
-    i: usize,
-    c: usize,
+    work: &[u16],
+    p: usize,
 )
-    requires { ⌜ Ready map (now keys) (now left) (now right) × (i < map .t) × (3 * map .m ≤ length (now cells)) × (c < 3 * map .m) ⌝ }
-    ensures { λ _. ⌜ now (cells .exit) ≡ fixed map (now (keys .entry)) (now (cells .entry)) i c ⌝ }
+    requires { ⌜ AtTurn map (now keys) (now left) (now right) (now work) (map .t) × (3 * map .m ≤ length (now cells)) × (p < map .t) ⌝ }
+    ensures { λ _. ⌜ now (cells .exit) ≡ fixed map (now (keys .entry)) (now (work .entry)) (now (cells .entry)) p ⌝ }
 {
     let which = map.which;
-    let value = cells::value_of(cells, map.m, count::hash_at(map, keys, left, right, i));
+    let m = map.m;
+    let t = map.t;
+    let x = 6 * m + p;
+    let y = x + t;
+    let i = work[x] as usize;
+    let c = work[y] as usize;
+    let value = cells::value_of(cells, m, count::hash_at(map, keys, left, right, i));
     cells[c] = cells[c] ^ items::value_at(which, keys, left, right, i) ^ value;
 }
 
@@ -37,15 +43,10 @@ pub fn fill_all(
     requires { ⌜ AtTurn map (now keys) (now left) (now right) (now work) (map .t) × (3 * map .m ≤ length (now cells)) × Zeros (3 * map .m) (now cells) ⌝ }
     ensures { λ _. ⌜ FilledAll map (now (keys .entry)) (now (cells .entry)) (now (cells .exit)) ⌝ }
 {
-    let m = map.m;
     let t = map.t;
     let mut done = 0;
     while done < t {
         done += 1;
-        let x = 6 * m + t - done;
-        let y = x + t;
-        let i = work[x] as usize;
-        let c = work[y] as usize;
-        fix_one(map, keys, left, right, cells, i, c);
+        fill_turn(map, keys, left, right, cells, work, t - done);
     }
 }

@@ -10,7 +10,7 @@ mod peel;
 use items::Items;
 
 // A map that is being built: its items, their seed, the size m of its segments and the number t of its items.
-pub struct Map {
+struct Map {
     pub which: Items,
     pub seed: u64,
     pub m: usize,
@@ -18,7 +18,7 @@ pub struct Map {
 }
 
 // The three cells that an item touches, one in each segment.
-pub struct Touched {
+struct Touched {
     pub first: usize,
     pub second: usize,
     pub third: usize,

@@ -9,7 +9,7 @@ use Rattle.items.specs.Items.{itemsOf, valuesOf, Known}
 use Rattle.maps.specs.declared.Map.{Map}
 use Rattle.maps.specs.declared.Touched.{Touched}
 use Rattle.maps.specs.Inner.Peel.{touchb}
-use Rattle.maps.specs.Inner.Work.{Holds, Beyond, Peeled, Tried, Stuck}
+use Rattle.maps.specs.Inner.Work.{Holds, Beyond, Peeled, Tried, Stuck, turnItem, turnCell}
 use Rattle.maps.specs.Inner.Fill.{fix, Valued, Clean}
 
 -- the hash of item i
@@ -72,9 +72,12 @@ pub record PeeledOut (map : Map) (keys left right a b : List ℕ) (n : ℕ) : Ty
   pub stuck : Stuck (3 * map .m) b
   pub beyond : Beyond (6 * map .m + 2 * map .t) a b
 
--- the cells with item i's value set by a store at cell c
-abbrev pub fixed : Map → List ℕ → List ℕ → ℕ → ℕ → List ℕ
-fixed map keys cells i c = set cells c (fix (graph map keys) cells i c (wanted map keys i))
+-- the cells with the value of turn p's item set by a store at that turn's cell
+abbrev pub fixed : Map → List ℕ → List ℕ → List ℕ → ℕ → List ℕ
+fixed map keys work cells p =
+    let i = turnItem (3 * map .m) work p in
+    let c = turnCell (3 * map .m) (map .t) work p in
+    set cells c (fix (graph map keys) cells i c (wanted map keys i))
 
 -- cells a became b, in which each item has its value
 pub record FilledAll (map : Map) (keys a b : List ℕ) : Type 0 where

@@ -45,6 +45,9 @@ ended : (j : tie.Joined1)
     → Ended (map (clearing (peeled j))) (now (start (clearing (peeled j)) .args .keys)) (peeled j .peel-all .result) (clearing (peeled j) .clear .last .0) (j .if1 .cells)
 ended j = ⊎-elim (λ h. ended-filled (h .0 .taken) (h .3 .ensures) (h .3 .kept .1 .1 .1 .1 .0) (h .6)) (λ h. ended-left (h .0 .left) (h .1)) (j .if1 .came)
 
+clear-requires : tie.Need-clear-requires
+clear-requires c κs = search needs
+
 peel-all-requires : tie.Need-peel-all-requires
 peel-all-requires c κs =
     let k = c .before .before .before in
@@ -79,7 +82,7 @@ build-spec =
     (λ c κs. search needs)
     (λ c κs. search needs)
     (λ c. search needs)
-    (λ c κs. search needs)
+    clear-requires
     peel-all-requires
     fill-all-requires
     (λ c. search needs)

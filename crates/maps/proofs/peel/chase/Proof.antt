@@ -7,7 +7,7 @@ use native.Mathlib.Omega.{arith}
 use denote.Ref.{now}
 use lib.ListN.{length, getD}
 use Rattle.maps.specs.Jam.{Touches}
-use Rattle.maps.specs.Inner.Work.{Beyond, Queue, stOf}
+use Rattle.maps.specs.Inner.Work.{Beyond, Queue, turnItem}
 use Rattle.maps.specs.Inner.Ready.{graph, AtTurn, TriedAt}
 use Rattle.maps.proofs.Peeling.{at-most}
 use Rattle.maps.proofs.Trying.{next-turn, queue-next}
@@ -55,7 +55,7 @@ loop-again c =
     let w : List ℕ = at-loop .loop .work in
     let q = at-loop .loop .q in
     let x : 6 * map .m + q ≡ 3 * map .m + 3 * map .m + q = omega arith in
-    let A : TriedAt map (now (start (at-loop .before) .args .keys)) (Touches e (stOf (3 * map .m) w q)) w (at-loop .loop .n) (called .try-three .last .1 .1 .1 .1 .0) (called .try-three .result) =
+    let A : TriedAt map (now (start (at-loop .before) .args .keys)) (Touches e (turnItem (3 * map .m) w q)) w (at-loop .loop .n) (called .try-three .last .1 .1 .1 .1 .0) (called .try-three .result) =
     rw x at (called .try-three .ensures) in
     let g : at-loop .loop .n ≤ called .try-three .result = A .grows in (
       omega arith,

@@ -7,7 +7,7 @@ use denote.Ref.{now}
 use lib.ListN.{length, getD, set, length-set}
 use lib.Seq.{getD-set-other}
 use Rattle.maps.specs.Jam.{Touches}
-use Rattle.maps.specs.Inner.Work.{stOf}
+use Rattle.maps.specs.Inner.Work.{turnItem}
 use Rattle.maps.specs.Inner.Ready.{graph}
 use Rattle.maps.proofs.Puts.{touch-below, touches-as, put-as}
 use Rattle.maps.proofs.Peeling.{OneLeft, one-left, left-counted, peel-tried}
@@ -29,7 +29,7 @@ abbrev item : tie.Start → ℕ
 item s = getD (now (s .args .work)) (3 * s .args .map .m + s .args .c) 0
 
 one : (s : tie.Start)
-    → OneLeft (graph (s .args .map) (now (s .args .keys))) (s .args .map .t) (stOf (3 * s .args .map .m) (now (s .args .work))) (s .args .n) (s .args .c) (item s)
+    → OneLeft (graph (s .args .map) (now (s .args .keys))) (s .args .map .t) (turnItem (3 * s .args .map .m) (now (s .args .work))) (s .args .n) (s .args .c) (item s)
 one s = one-left (s .args .c) (s .pre .0 .peeled) (s .pre .1) (s .pre .2)
 
 slice-write-work : tie.Need-slice-write-work

@@ -5,46 +5,43 @@
 --     built-decides              after a build there is a jam or there is none
 --     built-accepts, built-refuses    a build accepts exactly if there is no jam
 --     built-determined           two outcomes of a build on the same input are the same, up to the filling
---     jam-two, two-jam           the words of document 01 once more, with two items that differ
+--     jam-never-once, never-once-jam  a jam is a nonempty set that touches no cell just once, as the demands say it
 -- Assumes nothing.
 use mathlib.Core.Path.{_≡_, refl, sym, ap, _∙_}
-use mathlib.Core.Bool.{Bool, true, false}
+use mathlib.Core.Bool.{Bool, true, false, _&&_}
 use mathlib.Core.List.{List}
 use mathlib.Core.Logic.{_⊎_, inl, inr, ⊎-elim}
 use Prim.Native.Nat.{ℕ, zero, suc, _≤_, _<_}
-use native.Mathlib.Decide.{ℕ-discrete}
 use native.Mathlib.Nat.{eq-zero-or-pos}
 use native.Mathlib.Omega.{arith}
 use lib.ListN.{length, getD}
 use Rattle.maps.specs.Jam.{Touches, touch, Jam, NoJam, Largest, Jammed, Jamless, LargestJam, sizeOf}
 use Rattle.maps.specs.Built.{Filled, Built}
 use Rattle.maps.specs.Determined.{Alike, SameOutcome}
-use Rattle.maps.proofs.Sets.{size-ext}
+use Rattle.maps.specs.Inner.Peel.{touchb}
+use Rattle.maps.specs.Inner.Work.{xorOf}
+use Rattle.maps.proofs.Sets.{size-ext, size-one, One}
+use Rattle.maps.proofs.Jams.{and-left, and-right, and-both, touched, touches, closed-jam}
 
--- two different items of the set touch cell c
-pub record Two (e : ℕ → ℕ → ℕ) (t : ℕ) (s : ℕ → Bool) (c : ℕ) : Type 0 where
-  pub i : ℕ
-  pub j : ℕ
-  pub differ : i ≡ j → ⊥
-  pub ib : i < t
-  pub jb : j < t
-  pub is : s i ≡ true
-  pub js : s j ≡ true
-  pub it : Touches e i c
-  pub jt : Touches e j c
+-- no cell is touched just once: by one item of the set and by no other
+abbrev pub NeverOnce : (ℕ → ℕ → ℕ) → ℕ → (ℕ → Bool) → Type 0
+NeverOnce e t s = (i c : ℕ) → i < t → s i ≡ true → Touches e i c → ((j : ℕ) → j < t → s j ≡ true → Touches e j c → j ≡ i) → ⊥
 
-pub jam-two : (e : ℕ → ℕ → ℕ) (t : ℕ) (s : ℕ → Bool) → Jam e t s → (i c : ℕ) → i < t → s i ≡ true → Touches e i c → Two e t s c
-jam-two e t s J i c l h w =
-    let o : (j : ℕ) × (j < t) × (s j ≡ true) × Touches e j c × (j ≡ i → ⊥) = J .twice i c l h w in
-    record { i = i; j = o .0; differ = λ z. o .4 (sym z); ib = l; jb = o .1; is = h; js = o .2; it = w; jt = o .3 }
+pub jam-never-once : {e : ℕ → ℕ → ℕ} {t : ℕ} {s : ℕ → Bool} → Jam e t s → NeverOnce e t s
+jam-never-once J i c l h w alone =
+    let o = J .twice i c l h w in
+    o .4 (alone (o .0) (o .1) (o .2) (o .3))
 
-pub two-jam : (e : ℕ → ℕ → ℕ) (t : ℕ) (s : ℕ → Bool) → (i : ℕ) × (i < t) × (s i ≡ true)
-    → ((i c : ℕ) → i < t → s i ≡ true → Touches e i c → Two e t s c) → Jam e t s
-two-jam e t s some f = record { some = some; twice = λ i c l h w. other i c (f i c l h w) (ℕ-discrete (f i c l h w .i) i) }
-  where
-    other : (i c : ℕ) (T : Two e t s c) → Dec (T .i ≡ i) → (j : ℕ) × (j < t) × (s j ≡ true) × Touches e j c × (j ≡ i → ⊥)
-    other i c T (yes z) = (T .j, T .jb, T .js, T .jt, λ q. T .differ (z ∙ sym q))
-    other i c T (no z) = (T .i, T .ib, T .is, T .it, z)
+pub never-once-jam : {e : ℕ → ℕ → ℕ} {t : ℕ} {s : ℕ → Bool} → (i : ℕ) × (i < t) × (s i ≡ true) → NeverOnce e t s → Jam e t s
+never-once-jam {e} {t} {s} some N =
+    closed-jam e t s
+    (λ c z.
+    let p : ℕ → Bool = λ k. s k && touchb e k c in
+    let o : One p t (xorOf p t) = size-one p t z in
+    let i = xorOf p t in
+    N i c (o .below) (and-left (s i) (touchb e i c) (o .passes)) (touched e i c (and-right (s i) (touchb e i c) (o .passes)))
+    (λ j l h w. o .only j l (and-both h (touches e j c w))))
+    some
 
 one-never : (e : ℕ → ℕ → ℕ) (t : ℕ) → t ≤ 1 → NoJam e t
 one-never e t l s J =
