@@ -2,10 +2,10 @@
 --     stuck-largest    no cell has one item left: those left are the largest jam
 --     built            what `build` has done is what it promises
 -- Assumes nothing.
-use mathlib.Core.Path.{_≡_, refl, ap, _∙_}
+use mathlib.Core.Path.{_≡_, ap, _∙_}
 use mathlib.Core.List.{List}
 use mathlib.Core.Logic.{_⊎_, inl, inr, ⊎-elim}
-use Prim.Native.Nat.{ℕ, _+_, _-_, _*_, _<_}
+use Prim.Native.Nat.{ℕ, _+_, _-_, _*_, _≤_, _<_}
 use native.Mathlib.Omega.{arith}
 use lib.ListN.{length, getD}
 use Rattle.words.specs.Mix.{itemHash}
@@ -14,7 +14,7 @@ use Rattle.cells.specs.Memory.{cleared}
 use Rattle.items.specs.Items.{itemsOf, valuesOf}
 use Rattle.maps.specs.declared.Map.{Map}
 use Rattle.maps.specs.Jam.{Touches, touch, Largest, sizeOf}
-use Rattle.maps.specs.Built.{workCount, Filled, Built, MapBuilt}
+use Rattle.maps.specs.Built.{workCount, Room, Filled, Built, MapBuilt}
 use Rattle.maps.specs.Inner.Peel.{touchb, live, still}
 use Rattle.maps.specs.Inner.Work.{Peeled, Stuck, Beyond, xorOf, turnItem, turnCell}
 use Rattle.maps.specs.Inner.Fill.{valueOf, Valued, Clean}
@@ -24,8 +24,8 @@ use Rattle.maps.proofs.Jams.{and-right, touched, rest-largest, all-peel
 use Rattle.maps.proofs.Puts.{spread, touch-below}
 use Rattle.maps.proofs.Clearing.{drop-cleared, drop-same, cleared-same}
 
-pub stuck-largest : {e : ℕ → ℕ → ℕ} {t cap n : ℕ} {w : List ℕ} → ((i c : ℕ) → Touches e i c → c < cap) → Peeled e t cap w n → Stuck cap w → (n ≡ t → ⊥)
-    → Largest e t (live (turnItem cap w) n)
+pub stuck-largest : {e : ℕ → ℕ → ℕ} {t cap n : ℕ} {w : List ℕ} → ((i c : ℕ) → Touches e i c → c < cap) → Peeled e t cap w n → Stuck cap w
+    → (n ≡ t → ⊥) → Largest e t (live (turnItem cap w) n)
 stuck-largest {e} {t} {cap} {n} {w} below P S h =
     rest-largest e t (turnItem cap w) (turnCell cap t w) n (P .order) h
     (λ c z.
@@ -73,20 +73,30 @@ pub record Ended (map : Map) (keys : List ℕ) (n : ℕ) (a b : List ℕ) : Type
   pub long : length b ≡ length a
   pub how : ((n ≡ map .t) × FilledAll map keys a b) ⊎ ((n ≡ map .t → ⊥) × (b ≡ a))
 
-pub ended-filled : {map : Map} {keys : List ℕ} {n : ℕ} {a b d : List ℕ} → n ≡ map .t → FilledAll map keys a d → length d ≡ length a → b ≡ d → Ended map keys n a b
+pub ended-filled : {map : Map} {keys : List ℕ} {n : ℕ} {a b d : List ℕ} → n ≡ map .t → FilledAll map keys a d → length d ≡ length a → b ≡ d
+    → Ended map keys n a b
 ended-filled q F l e = record { long = ap length e ∙ l; how = inl (q, rw e F) }
 
 pub ended-left : {map : Map} {keys : List ℕ} {n : ℕ} {a b : List ℕ} → (n ≡ map .t → ⊥) → b ≡ a → Ended map keys n a b
 ended-left q e = record { long = ap length e; how = inr (q, e) }
 
-pub work-size : (m t n : ℕ) → m ≡ segment t → t ≡ n → 6 * m + 2 * t ≡ workCount n
+work-size : (m t n : ℕ) → m ≡ segment t → t ≡ n → 6 * m + 2 * t ≡ workCount n
 work-size m t n em et = rw (em, et) (omega arith)
 
-pub built : {map : Map} {keys left right : List ℕ} {a a₁ b u w v : List ℕ} {n : ℕ} → a₁ ≡ cleared (3 * map .m) a → length a₁ ≡ length a → length w ≡ length u
-    → PeeledOut map keys left right u w n → v ≡ cleared (6 * map .m + 2 * map .t) w → Ended map keys n a₁ b
+-- the named lengths, in the map's sizes
+pub room-cells : {map : Map} {keys left right cells work : List ℕ} → Ready map keys left right → Room (itemsOf (map .which) keys) cells work
+    → 3 * map .m ≤ length cells
+room-cells R room = rw (R .size, R .all) (room .forCells)
+
+pub room-work : {map : Map} {keys left right cells work : List ℕ} → Ready map keys left right → Room (itemsOf (map .which) keys) cells work
+    → 6 * map .m + 2 * map .t ≤ length work
+room-work {map} {keys} R room = rw (work-size (map .m) (map .t) (length (itemsOf (map .which) keys)) (R .size) (R .all)) (room .forWork)
+
+pub built : {map : Map} {keys left right : List ℕ} {a a₁ b u w v : List ℕ} {n : ℕ} → a₁ ≡ cleared (3 * map .m) a → length a₁ ≡ length a
+    → PeeledOut map keys left right u w n → length w ≡ length u → v ≡ cleared (6 * map .m + 2 * map .t) w → Ended map keys n a₁ b
     → MapBuilt (map .which) (map .seed) keys a u (map .t - n) b v
 unfolding Valued Clean valueOf valueAt
-built {map} {keys} {a = a} {a₁} {b} {u} {w} {v} {n} z l lw O y E =
+built {map} {keys} {a = a} {a₁} {b} {u} {w} {v} {n} z l O lw y E =
     let items : List ℕ = itemsOf (map .which) keys in
     let values : List ℕ = valuesOf (map .which) keys in
     let em : map .m ≡ segment (map .t) = O .turn .ready .size in
@@ -107,5 +117,6 @@ built {map} {keys} {a = a} {a₁} {b} {u} {w} {v} {n} z l lw O y E =
       beyond = drop-same (cellCount (length items)) a₁ b (E .long) B ∙ rw z′ (drop-cleared (cellCount (length items)) a);
       long = E .long ∙ l;
     }))
-    (λ h. built-jammed (map .seed) items values P sw (rw (em, et) at (O .turn .ready .fits)) (rw et at (h .0)) (rw (em, et) at (O .stuck)) (h .1 ∙ z′))
+    (λ h.
+    built-jammed (map .seed) items values P sw (rw (em, et) at (O .turn .ready .fits)) (rw et at (h .0)) (rw (em, et) at (O .stuck)) (h .1 ∙ z′))
     (E .how))

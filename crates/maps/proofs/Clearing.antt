@@ -1,17 +1,23 @@
 -- Memory cleared over its first m entries, entry by entry.
 -- Assumes nothing.
-use mathlib.Core.Path.{_≡_, refl, sym, ap, _∙_}
+use mathlib.Core.Path.{_≡_, sym, ap, _∙_}
 use mathlib.Core.List.{List, _++_}
-use Prim.Native.Nat.{ℕ, _+_, _-_, _≤_, _<_}
+use Prim.Native.Nat.{ℕ, _+_, _-_, _≤_}
 use native.Mathlib.Omega.{arith}
 use lib.ListN.{length, getD, drop, replicate, length-replicate, length-drop, getD-replicate, List·getD-append}
 use lib.Seq.{getD-drop, drop-at, ext-getD}
 use Rattle.cells.specs.Memory.{cleared}
-use Rattle.maps.specs.Inner.Work.{Zeros, Beyond}
+use Rattle.maps.specs.Inner.Work.{Blank, Beyond}
 
-pub cleared-zeros : (m : ℕ) (xs : List ℕ) {ys : List ℕ} → ys ≡ cleared m xs → Zeros m ys
-cleared-zeros m xs e k l =
-    ap (λ (zs : List ℕ). getD zs k 0) e ∙ List·getD-append (replicate m 0) (drop m xs) 0 k (simp length-replicate l) ∙ getD-replicate m k 0 0 l
+pub cleared-blank : (m : ℕ) (xs : List ℕ) {ys : List ℕ} → ys ≡ cleared m xs → length ys ≡ length xs → m ≤ length xs → Blank m ys
+cleared-blank m xs e l h =
+    record {
+      long = omega arith;
+      zeros = λ k lt.
+          ap (λ (zs : List ℕ). getD zs k 0) e
+          ∙ List·getD-append (replicate m 0) (drop m xs) 0 k (simp length-replicate lt)
+          ∙ getD-replicate m k 0 0 lt;
+    }
 
 pub drop-cleared : (m : ℕ) (xs : List ℕ) → drop m (cleared m xs) ≡ drop m xs
 drop-cleared m xs = drop-at (replicate m 0) (drop m xs) m (length-replicate m 0)
@@ -28,7 +34,8 @@ cleared-beyond m xs {ys} e = drop-getD m ys xs (ap (drop m) e ∙ drop-cleared m
 
 pub drop-same : (m : ℕ) (a b : List ℕ) → length b ≡ length a → Beyond m a b → drop m b ≡ drop m a
 drop-same m a b l B =
-    ext-getD 0 (drop m b) (drop m a) (simp length-drop (ap (λ (n : ℕ). n - m) l)) (λ i h. getD-drop m b i 0 ∙ B (m + i) (omega arith) ∙ sym (getD-drop m a i 0))
+    ext-getD 0 (drop m b) (drop m a) (simp length-drop (ap (λ (n : ℕ). n - m) l))
+    (λ i h. getD-drop m b i 0 ∙ B (m + i) (omega arith) ∙ sym (getD-drop m a i 0))
 
 pub cleared-same : (m : ℕ) (a b : List ℕ) → length b ≡ length a → Beyond m a b → cleared m b ≡ cleared m a
 cleared-same m a b l B = ap (λ (xs : List ℕ). replicate m 0 ++ xs) (drop-same m a b l B)

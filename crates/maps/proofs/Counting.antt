@@ -2,7 +2,7 @@
 --     counted-none, counted-more    what the loop of `count_all` keeps
 --     counted-few                   a count stays below 65,535
 -- Assumes nothing.
-use mathlib.Core.Path.{_≡_, refl, ap, _∙_}
+use mathlib.Core.Path.{refl, ap, _∙_}
 use mathlib.Core.List.{List}
 use Prim.Native.Nat.{ℕ, _+_, _*_, _<_}
 use native.Mathlib.Numerals.{add-one}
@@ -11,19 +11,20 @@ use lib.ListN.{getD}
 use Rattle.maps.specs.declared.Map.{Map}
 use Rattle.maps.specs.Jam.{sizeOf}
 use Rattle.maps.specs.Inner.Peel.{touchb}
-use Rattle.maps.specs.Inner.Work.{Put, Zeros, moreIf, xorIf, xorOf}
+use Rattle.maps.specs.Inner.Work.{Put, Blank, moreIf, xorIf, xorOf}
 use Rattle.maps.specs.Inner.Ready.{graph, Counted}
 use Rattle.maps.proofs.Sets.{size-le}
 
-pub counted-none : (map : Map) (keys w : List ℕ) → Zeros (6 * map .m) w → Counted map keys 0 w w
+pub counted-none : (map : Map) (keys w : List ℕ) → Blank (6 * map .m) w → Counted map keys 0 w w
 unfolding sizeOf xorOf
 counted-none map keys w h =
     record {
-      holds = record { count = λ c l. h c (omega arith); xor = λ c l. h (3 * map .m + c) (omega arith) };
+      holds = record { count = λ c l. h .zeros c (omega arith); xor = λ c l. h .zeros (3 * map .m + c) (omega arith) };
       beyond = λ k l. refl;
     }
 
-pub counted-few : {map : Map} {keys : List ℕ} {i : ℕ} {a b : List ℕ} → Counted map keys i a b → (c : ℕ) → c < 3 * map .m → i < 65535 → getD b c 0 < 65535
+pub counted-few : {map : Map} {keys : List ℕ} {i : ℕ} {a b : List ℕ} → Counted map keys i a b → (c : ℕ) → c < 3 * map .m → i < 65535
+    → getD b c 0 < 65535
 counted-few {map} {keys} {i} C c l m = omega (arith, C .holds .count c l, size-le (λ j. touchb (graph map keys) j c) i)
 
 pub counted-more : {map : Map} {keys : List ℕ} {i : ℕ} {a b d : List ℕ} → Counted map keys i a b → Put (graph map keys) (3 * map .m) i b d

@@ -7,15 +7,15 @@
 --     built-determined           two outcomes of a build on the same input are the same, up to the filling
 --     jam-never-once, never-once-jam  a jam is a nonempty set that touches no cell just once, as the demands say it
 -- Assumes nothing.
-use mathlib.Core.Path.{_≡_, refl, sym, ap, _∙_}
+use mathlib.Core.Path.{_≡_, refl, sym, _∙_}
 use mathlib.Core.Bool.{Bool, true, false, _&&_}
 use mathlib.Core.List.{List}
 use mathlib.Core.Logic.{_⊎_, inl, inr, ⊎-elim}
-use Prim.Native.Nat.{ℕ, zero, suc, _≤_, _<_}
+use Prim.Native.Nat.{ℕ, _≤_, _<_}
 use native.Mathlib.Nat.{eq-zero-or-pos}
 use native.Mathlib.Omega.{arith}
-use lib.ListN.{length, getD}
-use Rattle.maps.specs.Jam.{Touches, touch, Jam, NoJam, Largest, Jammed, Jamless, LargestJam, sizeOf}
+use lib.ListN.{length}
+use Rattle.maps.specs.Jam.{Touches, touch, Jam, NoJam, Largest, Jammed, Jamless, LargestJam}
 use Rattle.maps.specs.Built.{Filled, Built}
 use Rattle.maps.specs.Determined.{Alike, SameOutcome}
 use Rattle.maps.specs.Inner.Peel.{touchb}

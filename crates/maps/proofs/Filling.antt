@@ -5,6 +5,7 @@
 --     fill-none, turn, fill-all    what the loop of `fill_all` keeps, and what it ends with
 -- Assumes nothing.
 use mathlib.Core.Path.{_≡_, refl, sym, ap, ap₂, _∙_, subst}
+use mathlib.Core.Bool.{true}
 use mathlib.Core.List.{List}
 use mathlib.Core.Logic.{inl, inr, ⊎-elim}
 use Prim.Native.Nat.{ℕ, _+_, _*_, _≤_, _<_}
@@ -17,7 +18,8 @@ use Rattle.words.proofs.Xor.{xor-sort}
 use Rattle.cells.specs.Cells.{valueAt}
 use Rattle.maps.specs.declared.Map.{Map}
 use Rattle.maps.specs.Jam.{Touches}
-use Rattle.maps.specs.Inner.Work.{Zeros, Beyond, turnItem, turnCell}
+use Rattle.maps.specs.Inner.Peel.{live}
+use Rattle.maps.specs.Inner.Work.{Blank, Beyond, turnItem, turnCell}
 use Rattle.maps.specs.Inner.Fill.{valueOf, Valued, Clean, fix}
 use Rattle.maps.specs.Inner.Ready.{hashOf, graph, wanted, Spread, AtTurn, fixed, FilledAll}
 use Rattle.maps.proofs.Jams.{live-le, live-not, live-out, none-left}
@@ -67,8 +69,8 @@ value-there e cells j c v h =
     (getD-set-other cells c (e 2 j) v 0 (λ z. h (inr (inr z))))
 
 -- the store of `fill_turn`: i and c are the turn's item and cell as they were read, h its hash, v its value before and y the wanted one
-pub stored : (map : Map) (keys w b : List ℕ) (p i c h v y : ℕ) → i ≡ turnItem (3 * map .m) w p → c ≡ turnCell (3 * map .m) (map .t) w p → h ≡ hashOf map keys i
-    → v ≡ valueAt (map .m) b h → y ≡ wanted map keys i → set b c (bitXor (bitXor (getD b c 0) y) v) ≡ fixed map keys w b p
+pub stored : (map : Map) (keys w b : List ℕ) (p i c h v y : ℕ) → i ≡ turnItem (3 * map .m) w p → c ≡ turnCell (3 * map .m) (map .t) w p
+    → h ≡ hashOf map keys i → v ≡ valueAt (map .m) b h → y ≡ wanted map keys i → set b c (bitXor (bitXor (getD b c 0) y) v) ≡ fixed map keys w b p
 unfolding valueOf valueAt
 stored map keys w b p i c h v y ei ec eh ev ey = rw (ev, ey, eh, ec, ei)
 
@@ -90,7 +92,8 @@ module _ {map : Map} {keys left right w : List ℕ} (A : AtTurn map keys left ri
   later : (p q : ℕ) → p < q → q < map .t → Touches (graph map keys) (St q) (At p) → ⊥
   later p q l k h =
       let o = A .peeled .order in
-      live-not St q (St q) (o .fresh q k) p l (sym (o .alone p (omega arith) (St q) (o .small q k) (live-le St p q (St q) (omega arith) (o .fresh q k)) h))
+      let left : live St p (St q) ≡ true = live-le St p q (St q) (omega arith) (o .fresh q k) in
+      live-not St q (St q) (o .fresh q k) p l (sym (o .alone p (omega arith) (St q) (o .small q k) left h))
 
   item-spread : (i : ℕ) → Spread (graph map keys) (3 * map .m) i
   item-spread i = spread (map .m) (hashOf map keys) i (A .ready .fits)
@@ -98,9 +101,9 @@ module _ {map : Map} {keys left right w : List ℕ} (A : AtTurn map keys left ri
   pub cell-below : (p : ℕ) → p < map .t → At p < 3 * map .m
   cell-below p l = touch-below (At p) (item-spread (St p)) (A .peeled .order .here p l)
 
-  pub fill-none : (p : ℕ) {a : List ℕ} → map .t ≤ p → Zeros (3 * map .m) a → FilledFrom map keys w p a a
+  pub fill-none : (p : ℕ) {a : List ℕ} → map .t ≤ p → Blank (3 * map .m) a → FilledFrom map keys w p a a
   unfolding Clean
-  fill-none p m h = record { valued = λ q l n. absurd (omega arith); clean = λ k l u. h k l; beyond = λ k l. refl }
+  fill-none p m h = record { valued = λ q l n. absurd (omega arith); clean = λ k l u. h .zeros k l; beyond = λ k l. refl }
 
   pub turn : {p : ℕ} {a b b′ : List ℕ} → p < map .t → 3 * map .m ≤ length b → FilledFrom map keys w (p + 1) a b → b′ ≡ fixed map keys w b p
       → FilledFrom map keys w p a b′

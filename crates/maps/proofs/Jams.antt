@@ -7,7 +7,7 @@
 use mathlib.Core.Path.{_≡_, refl, sym, ap, ap₂, _∙_}
 use mathlib.Core.Bool.{Bool, true, false, _&&_, _||_, not, or-true, and-eq-true-iff}
 use mathlib.Core.Logic.{_⊎_, inl, inr, ⊎-elim}
-use Prim.Native.Nat.{ℕ, zero, suc, _+_, _≤_, _<_}
+use Prim.Native.Nat.{ℕ, zero, suc, _≤_, _<_}
 use native.Mathlib.Omega.{arith}
 use borrow.Author.Tests.{eq-eqb, ne-eqb, eqb-true, eqb-false, not-true}
 use lib.Dec.{eqb}
@@ -52,7 +52,8 @@ closed-jam e t s no-one some =
     record {
       some = some;
       twice = λ i c l h w.
-          let o : (j : ℕ) × (j < t) × (s j && touchb e j c ≡ true) × (j ≡ i → ⊥) = size-other (λ k. s k && touchb e k c) t i (no-one c) l (and-both h (touches e i c w)) in
+          let o : (j : ℕ) × (j < t) × (s j && touchb e j c ≡ true) × (j ≡ i → ⊥) =
+          size-other (λ k. s k && touchb e k c) t i (no-one c) l (and-both h (touches e i c w)) in
           (o .0, o .1, and-left (s (o .0)) (touchb e (o .0) c) (o .2), touched e (o .0) c (and-right (s (o .0)) (touchb e (o .0) c) (o .2)), o .3);
     }
 

@@ -19,7 +19,7 @@ use lib.ListN.{length, getD, set, length-set}
 use lib.Seq.{getD-set-same, getD-set-other}
 use Rattle.maps.specs.Jam.{Touches, sizeOf}
 use Rattle.maps.specs.Inner.Peel.{touchb, live, Peeling, still}
-use Rattle.maps.specs.Inner.Work.{Put, Holds, Peeled, Tried, moreIf, xorIf, xorOf, turnItem, turnCell}
+use Rattle.maps.specs.Inner.Work.{Put, Holds, Peeled, Tried, moreIf, xorIf, turnItem, turnCell}
 use Rattle.maps.proofs.Sets.{size-one, One, Without, size-less, xor-less, size-zero, clash, true-or-false, last-or-below, xor-if-twice}
 use Rattle.maps.proofs.Jams.{and-left, and-right, and-both, touched, touches, live-ext}
 
@@ -50,13 +50,6 @@ one-left {e} {t} {cap} {n} {w} c P l d =
       only = λ j m a b. o .only j m (and-both a (touches e j c b));
     }
 
-pub left-counted : {e : ℕ → ℕ → ℕ} {t cap n : ℕ} {w : List ℕ} (i k : ℕ) → Peeled e t cap w n → i < t → live (turnItem cap w) n i ≡ true → k < cap
-    → Touches e i k → 0 < getD w k 0
-left-counted {e} {t} {cap} {n} {w} i k P l v m h =
-    let some : ¬ (getD w k 0 ≡ 0) =
-    λ z. clash (and-both v (touches e i k h)) (size-zero (still e (turnItem cap w) n k) t (sym (P .holds .count k m) ∙ z) i l) in
-    omega arith
-
 -- who is left after one more turn, at which i was peeled
 module _ (st st′ : ℕ → ℕ) (n i : ℕ) (same : (p : ℕ) → p < n → st′ p ≡ st p) (top : st′ n ≡ i) where
   live-one : (j : ℕ) → live st′ (suc n) j ≡ live st n j && not (eqb i j)
@@ -83,116 +76,134 @@ more-inj : (b : Bool) (x y : ℕ) → moreIf b x ≡ moreIf b y → x ≡ y
 more-inj true x y e = suc-inj e
 more-inj false x y e = e
 
--- the step: w with i and c stored on the stacks is w′ with i put in
-module _ {e : ℕ → ℕ → ℕ} {t cap n : ℕ} {w w′ : List ℕ} (c x y : ℕ)
+-- the step: i is the item left at c, and is stored with c on the stacks
+module _ {e : ℕ → ℕ → ℕ} {t cap n : ℕ} {w : List ℕ} (c x y : ℕ)
     (P : Peeled e t cap w n) (l : c < cap) (d : getD w c 0 ≡ 1) (long : cap + cap + t + t ≤ length w)
-    (ex : x ≡ cap + cap + n) (ey : y ≡ cap + cap + t + n)
-    (R : Put e cap (getD w (cap + c) 0) w′ (set (set w x (getD w (cap + c) 0)) y c)) where
+    (ex : x ≡ cap + cap + n) (ey : y ≡ cap + cap + t + n) where
   abbrev I : ℕ
   I = getD w (cap + c) 0
 
-  abbrev W₁ : List ℕ
-  W₁ = set (set w x I) y c
+  abbrev Stacked : List ℕ
+  Stacked = set (set w x I) y c
 
-  abbrev St : ℕ → ℕ
-  St = turnItem cap w
+  abbrev Items : ℕ → ℕ
+  Items = turnItem cap w
 
-  abbrev St′ : ℕ → ℕ
-  St′ = turnItem cap w′
+  abbrev Cells : ℕ → ℕ
+  Cells = turnCell cap t w
 
-  O : OneLeft e t St n c I
+  O : OneLeft e t Items n c I
   O = one-left c P l d
 
-  old : (k : ℕ) → (k ≡ x → ⊥) → (k ≡ y → ⊥) → getD W₁ k 0 ≡ getD w k 0
-  old k p q = getD-set-other (set w x I) y k c 0 q ∙ getD-set-other w x k I 0 p
+  elsewhere : (k : ℕ) → (k ≡ x → ⊥) → (k ≡ y → ⊥) → getD Stacked k 0 ≡ getD w k 0
+  elsewhere k p q = getD-set-other (set w x I) y k c 0 q ∙ getD-set-other w x k I 0 p
 
-  st-kept : (p : ℕ) → p < n → St′ p ≡ St p
-  st-kept p m =
-      let r : n < t = O .room in
-      sym (R .rest (cap + cap + p) (omega arith)) ∙ old (cap + cap + p) (λ z. omega arith) (λ z. omega arith)
+  pub left-counted : (k : ℕ) → k < cap → Touches e I k → 0 < getD Stacked k 0
+  left-counted k m h =
+      let some : ¬ (getD w k 0 ≡ 0) =
+      λ z. clash (and-both (O .left) (touches e I k h)) (size-zero (still e Items n k) t (sym (P .holds .count k m) ∙ z) I (O .below)) in
+      omega (arith, elsewhere k (λ z. omega arith) (λ z. omega arith))
 
-  at-kept : (p : ℕ) → p < n → turnCell cap t w′ p ≡ turnCell cap t w p
-  at-kept p m =
-      let r : n < t = O .room in
-      sym (R .rest (cap + cap + t + p) (omega arith)) ∙ old (cap + cap + t + p) (λ z. omega arith) (λ z. omega arith)
+  -- and is taken out
+  module _ {w′ : List ℕ} (R : Put e cap I w′ Stacked) where
+    abbrev Items′ : ℕ → ℕ
+    Items′ = turnItem cap w′
 
-  st-top : St′ n ≡ I
-  st-top =
-      let r : n < t = O .room in
-      sym (R .rest (cap + cap + n) (omega arith))
-      ∙ getD-set-other (set w x I) y (cap + cap + n) c 0 (λ z. omega arith)
-      ∙ rw (← ex) (getD-set-same w x I 0 (omega arith))
+    abbrev Cells′ : ℕ → ℕ
+    Cells′ = turnCell cap t w′
 
-  at-top : turnCell cap t w′ n ≡ c
-  at-top =
-      let r : n < t = O .room in
-      sym (R .rest (cap + cap + t + n) (omega arith)) ∙ rw (← ey) (getD-set-same (set w x I) y c 0 (simp length-set (omega arith)))
+    item-kept : (p : ℕ) → p < n → Items′ p ≡ Items p
+    item-kept p m =
+        let r : n < t = O .room in
+        sym (R .rest (cap + cap + p) (omega arith)) ∙ elsewhere (cap + cap + p) (λ z. omega arith) (λ z. omega arith)
 
-  count-step : (k : ℕ) → k < cap → getD w k 0 ≡ moreIf (touchb e I k) (getD w′ k 0)
-  count-step k m = sym (old k (λ z. omega arith) (λ z. omega arith)) ∙ R .count k m
+    cell-kept : (p : ℕ) → p < n → Cells′ p ≡ Cells p
+    cell-kept p m =
+        let r : n < t = O .room in
+        sym (R .rest (cap + cap + t + p) (omega arith)) ∙ elsewhere (cap + cap + t + p) (λ z. omega arith) (λ z. omega arith)
 
-  xor-step : (k : ℕ) → k < cap → getD w′ (cap + k) 0 ≡ xorIf (touchb e I k) I (getD w (cap + k) 0)
-  xor-step k m =
-      sym (xor-if-twice (touchb e I k) I (getD w′ (cap + k) 0))
-      ∙ ap (xorIf (touchb e I k) I) (sym (R .xor k m) ∙ old (cap + k) (λ z. omega arith) (λ z. omega arith))
+    item-top : Items′ n ≡ I
+    item-top =
+        let r : n < t = O .room in
+        sym (R .rest (cap + cap + n) (omega arith))
+        ∙ getD-set-other (set w x I) y (cap + cap + n) c 0 (λ z. omega arith)
+        ∙ rw (← ex) (getD-set-same w x I 0 (omega arith))
 
-  gone : (k : ℕ) → Without (still e St n k) (still e St′ (suc n) k) I (touchb e I k)
-  gone k = still-without St St′ n I st-kept st-top e k (O .left)
+    cell-top : Cells′ n ≡ c
+    cell-top =
+        let r : n < t = O .room in
+        sym (R .rest (cap + cap + t + n) (omega arith)) ∙ rw (← ey) (getD-set-same (set w x I) y c 0 (simp length-set (omega arith)))
 
-  holds′ : Holds t cap (still e St′ (suc n)) w′
-  holds′ =
-      record {
-        count = λ k m.
-            more-inj (touchb e I k) (getD w′ k 0) (sizeOf (still e St′ (suc n) k) t)
-            (sym (count-step k m) ∙ P .holds .count k m ∙ size-less (still e St n k) (still e St′ (suc n) k) I t (touchb e I k) (O .below) (gone k));
-        xor = λ k m.
-            xor-step k m
-            ∙ ap (xorIf (touchb e I k) I) (P .holds .xor k m)
-            ∙ sym (xor-less (still e St n k) (still e St′ (suc n) k) I t (touchb e I k) (O .below) (gone k));
-      }
+    count-step : (k : ℕ) → k < cap → getD w k 0 ≡ moreIf (touchb e I k) (getD w′ k 0)
+    count-step k m = sym (elsewhere k (λ z. omega arith) (λ z. omega arith)) ∙ R .count k m
 
-  live-below : (p j : ℕ) → p ≤ n → live St′ p j ≡ live St p j
-  live-below p j m = live-ext St′ St p j (λ q k. st-kept q (omega arith))
+    xor-step : (k : ℕ) → k < cap → getD w′ (cap + k) 0 ≡ xorIf (touchb e I k) I (getD w (cap + k) 0)
+    xor-step k m =
+        sym (xor-if-twice (touchb e I k) I (getD w′ (cap + k) 0))
+        ∙ ap (xorIf (touchb e I k) I) (sym (R .xor k m) ∙ elsewhere (cap + k) (λ z. omega arith) (λ z. omega arith))
 
-  -- what held of each turn below n, and holds of turn n, holds of each turn below suc n
-  each : (F : ℕ → ℕ → ℕ → Type 0) → ((p : ℕ) → p < n → F p (St p) (turnCell cap t w p)) → F n I c → (p : ℕ) → p < suc n → F p (St′ p) (turnCell cap t w′ p)
-  each F below here p m =
-      ⊎-elim
-      (λ (z : p ≡ n). rw (z, st-top, at-top) here)
-      (λ (z : p < n). rw (st-kept p z, at-kept p z) (below p z))
-      (last-or-below m)
+    gone : (k : ℕ) → Without (still e Items n k) (still e Items′ (suc n) k) I (touchb e I k)
+    gone k = still-without Items Items′ n I item-kept item-top e k (O .left)
 
-  order′ : Peeling e t St′ (turnCell cap t w′) (suc n)
-  order′ =
-      let o = P .order in
-      record {
-        small = each (λ p i k. i < t) (o .small) (O .below);
-        fresh = each (λ p i k. live St′ p i ≡ true) (λ p z. live-below p (St p) (omega arith) ∙ o .fresh p z) (live-below n I (omega arith) ∙ O .left);
-        here = each (λ p i k. Touches e i k) (o .here) (O .here);
-        alone = each (λ p i k. (j : ℕ) → j < t → live St′ p j ≡ true → Touches e j k → j ≡ i)
-            (λ p z j jt lv tj. o .alone p z j jt (sym (live-below p j (omega arith)) ∙ lv) tj)
-            (λ j jt lv tj. O .only j jt (sym (live-below n j (omega arith)) ∙ lv) tj);
-        left =
-            let q : sizeOf (live St n) t ≡ suc (sizeOf (live St′ (suc n)) t) =
-            size-less (live St n) (live St′ (suc n)) I t true (O .below) (live-without St St′ n I st-kept st-top (O .left)) in
-            omega (arith, o .left);
-      }
+    holds′ : Holds t cap (still e Items′ (suc n)) w′
+    holds′ =
+        record {
+          count = λ k m.
+              more-inj (touchb e I k) (getD w′ k 0) (sizeOf (still e Items′ (suc n) k) t)
+              (sym (count-step k m)
+              ∙ P .holds .count k m
+              ∙ size-less (still e Items n k) (still e Items′ (suc n) k) I t (touchb e I k) (O .below) (gone k));
+          xor = λ k m.
+              xor-step k m
+              ∙ ap (xorIf (touchb e I k) I) (P .holds .xor k m)
+              ∙ sym (xor-less (still e Items n k) (still e Items′ (suc n) k) I t (touchb e I k) (O .below) (gone k));
+        }
 
-  pub peel-tried : Tried e t cap (λ k. c ≡ k) w n w′ (n + 1)
-  peel-tried =
-      let r : n < t = O .room in
-      rw add-one
-      (record {
-        peeled = record { order = order′; holds = holds′ };
-        grows = omega arith;
-        kept = st-kept;
-        others = λ k m z. ⊎-elim
-            (λ (b : touchb e I k ≡ true). inr (n, omega arith, omega arith, subst (λ (v : ℕ). Touches e v k) (sym st-top) (touched e I k b)))
-            (λ (b : touchb e I k ≡ false).
-            inl (count-step k m ∙ rw b z, λ (q : c ≡ k). clash (ap (touchb e I) (sym q) ∙ touches e I c (O .here)) b))
-            (true-or-false (touchb e I k));
-        beyond = λ k m. sym (R .rest k (omega arith)) ∙ old k (λ z. omega arith) (λ z. omega arith);
-      })
+    live-below : (p j : ℕ) → p ≤ n → live Items′ p j ≡ live Items p j
+    live-below p j m = live-ext Items′ Items p j (λ q k. item-kept q (omega arith))
+
+    -- what held of each turn below n, and holds of turn n, holds of each turn below suc n
+    each : (F : ℕ → ℕ → ℕ → Type 0) → ((p : ℕ) → p < n → F p (Items p) (Cells p)) → F n I c
+        → (p : ℕ) → p < suc n → F p (Items′ p) (Cells′ p)
+    each F below here p m =
+        ⊎-elim
+        (λ (z : p ≡ n). rw (z, item-top, cell-top) here)
+        (λ (z : p < n). rw (item-kept p z, cell-kept p z) (below p z))
+        (last-or-below m)
+
+    order′ : Peeling e t Items′ Cells′ (suc n)
+    order′ =
+        let o = P .order in
+        record {
+          small = each (λ p i k. i < t) (o .small) (O .below);
+          fresh = each (λ p i k. live Items′ p i ≡ true)
+              (λ p z. live-below p (Items p) (omega arith) ∙ o .fresh p z)
+              (live-below n I (omega arith) ∙ O .left);
+          here = each (λ p i k. Touches e i k) (o .here) (O .here);
+          alone = each (λ p i k. (j : ℕ) → j < t → live Items′ p j ≡ true → Touches e j k → j ≡ i)
+              (λ p z j jt lv tj. o .alone p z j jt (sym (live-below p j (omega arith)) ∙ lv) tj)
+              (λ j jt lv tj. O .only j jt (sym (live-below n j (omega arith)) ∙ lv) tj);
+          left =
+              let q : sizeOf (live Items n) t ≡ suc (sizeOf (live Items′ (suc n)) t) =
+              size-less (live Items n) (live Items′ (suc n)) I t true (O .below) (live-without Items Items′ n I item-kept item-top (O .left)) in
+              omega (arith, o .left);
+        }
+
+    pub peel-tried : Tried e t cap (λ k. c ≡ k) w n w′ (n + 1)
+    peel-tried =
+        let r : n < t = O .room in
+        rw add-one
+        (record {
+          peeled = record { order = order′; holds = holds′ };
+          grows = omega arith;
+          kept = item-kept;
+          others = λ k m z. ⊎-elim
+              (λ (b : touchb e I k ≡ true). inr (n, omega arith, omega arith, subst (λ (v : ℕ). Touches e v k) (sym item-top) (touched e I k b)))
+              (λ (b : touchb e I k ≡ false).
+              inl (count-step k m ∙ rw b z, λ (q : c ≡ k). clash (ap (touchb e I) (sym q) ∙ touches e I c (O .here)) b))
+              (true-or-false (touchb e I k));
+          beyond = λ k m. sym (R .rest k (omega arith)) ∙ elsewhere k (λ z. omega arith) (λ z. omega arith);
+        })
 
 all-left : (t : ℕ) → sizeOf (λ i. true) t ≡ t
 unfolding sizeOf

@@ -139,13 +139,18 @@ puts {e} {cap} {i} {a} {b} {d} {f} S P Q R =
     record {
       count = λ c l.
           count-one cap (e 2 i) i d f R (omega arith) c l
-          ∙ ap (moreIf (eqb (e 2 i) c)) (count-one cap (e 1 i) i b d Q (omega arith) c l ∙ ap (moreIf (eqb (e 1 i) c)) (count-one cap (e 0 i) i a b P (omega arith) c l))
+          ∙ ap (moreIf (eqb (e 2 i) c)) (count-one cap (e 1 i) i b d Q (omega arith) c l)
+          ∙ ap (λ (n : ℕ). moreIf (eqb (e 2 i) c) (moreIf (eqb (e 1 i) c) n)) (count-one cap (e 0 i) i a b P (omega arith) c l)
           ∙ once moreIf (λ n. refl) (eqb (e 0 i) c) (eqb (e 1 i) c) (eqb (e 2 i) c) (getD a c 0) (excluded c S);
       xor = λ c l.
           xor-one cap (e 2 i) i d f R (omega arith) c l
-          ∙ ap (xorIf (eqb (e 2 i) c) i) (xor-one cap (e 1 i) i b d Q (omega arith) c l ∙ ap (xorIf (eqb (e 1 i) c) i) (xor-one cap (e 0 i) i a b P (omega arith) c l))
+          ∙ ap (xorIf (eqb (e 2 i) c) i) (xor-one cap (e 1 i) i b d Q (omega arith) c l)
+          ∙ ap (λ (x : ℕ). xorIf (eqb (e 2 i) c) i (xorIf (eqb (e 1 i) c) i x)) (xor-one cap (e 0 i) i a b P (omega arith) c l)
           ∙ once (λ t. xorIf t i) (λ n. refl) (eqb (e 0 i) c) (eqb (e 1 i) c) (eqb (e 2 i) c) (getD a (cap + c) 0) (excluded c S);
-      rest = λ k l. R .rest k (λ z. omega arith) (λ z. omega arith) ∙ Q .rest k (λ z. omega arith) (λ z. omega arith) ∙ P .rest k (λ z. omega arith) (λ z. omega arith);
+      rest = λ k l.
+          R .rest k (λ z. omega arith) (λ z. omega arith)
+          ∙ Q .rest k (λ z. omega arith) (λ z. omega arith)
+          ∙ P .rest k (λ z. omega arith) (λ z. omega arith);
     }
 
 -- three cells found for item i are its cells

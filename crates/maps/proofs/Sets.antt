@@ -6,7 +6,7 @@
 --     size-one                a set of one: the xor is its number
 --     size-other              a set that is not of one has another number beside the one at hand
 -- Assumes nothing.
-use mathlib.Core.Path.{_≡_, refl, sym, ap, ap₂, _∙_, subst}
+use mathlib.Core.Path.{_≡_, refl, sym, ap, ap₂, _∙_}
 use mathlib.Core.Bool.{Bool, true, false, _&&_, not, true≢false, and-true, and-false, and-eq-true-iff}
 use mathlib.Core.Logic.{_⊎_, inl, inr, ⊎-elim}
 use Prim.Native.Nat.{ℕ, zero, suc, _≤_, _<_}
@@ -14,8 +14,8 @@ use native.Mathlib.Nat.{le-of-suc-le-suc, eq-or-lt-of-le}
 use native.Mathlib.Omega.{arith}
 use borrow.Author.Tests.{eq-eqb, ne-eqb}
 use lib.Dec.{eqb}
-use lib.Bits.{bitXor, xor-zero-l}
-use Rattle.words.proofs.Xor.{xor-cancel, xor-assoc, xor-sort}
+use lib.Bits.{bitXor}
+use Rattle.words.proofs.Xor.{xor-cancel, xor-sort}
 use Rattle.maps.specs.Jam.{sizeOf}
 use Rattle.maps.specs.Inner.Work.{moreIf, xorIf, xorOf}
 

@@ -20,14 +20,19 @@ use Rattle.maps.specs.Inner.Ready.{graph, CellsAt, Ready, Counted, AtTur
 use Rattle.maps.proofs.Peeling.{start-peeled}
 
 -- all items are counted, and none is peeled
-pub first-turn : {map : Map} {keys left right a w : List ℕ} → Ready map keys left right → 6 * map .m + 2 * map .t ≤ length w → Counted map keys (map .t) a w
-    → AtTurn map keys left right w 0
+pub first-turn : {map : Map} {keys left right a w : List ℕ} → Ready map keys left right → 6 * map .m + 2 * map .t ≤ length w
+    → Counted map keys (map .t) a w → AtTurn map keys left right w 0
 first-turn {map} {keys} R l C = record { ready = R; long = l; peeled = start-peeled (graph map keys) (C .holds) }
 
 -- the map stays ready while more is peeled
 pub next-turn : {map : Map} {keys left right w w′ : List ℕ} {n r : ℕ} → AtTurn map keys left right w n → length w′ ≡ length w
     → Peeled (graph map keys) (map .t) (3 * map .m) w′ r → AtTurn map keys left right w′ r
 next-turn A l P = record { ready = A .ready; long = omega (arith, A .long); peeled = P }
+
+-- the item of a turn is one of the map's
+pub turn-small : {map : Map} {keys left right w : List ℕ} {n q : ℕ} (x : ℕ) → AtTurn map keys left right w n → x ≡ 6 * map .m + q → q < n
+    → getD w x 0 < map .t
+turn-small {map} {q = q} x A e l = let z : x ≡ 3 * map .m + 3 * map .m + q = omega arith in rw z (A .peeled .order .small q l)
 
 module _ {e : ℕ → ℕ → ℕ} {t cap : ℕ} where
   idle : (T : ℕ → Type 0) {w : List ℕ} {n : ℕ} → Peeled e t cap w n → ((k : ℕ) → getD w k 0 ≡ 1 → T k → ⊥) → Tried e t cap T w n w n
@@ -85,14 +90,15 @@ module _ {e : ℕ → ℕ → ℕ} {t cap : ℕ} where
       (λ (h : (p : ℕ) × (0 ≤ p) × (p < r) × Touches e (turnItem cap b p) k). h)
       (A .others k m z)
 
-  pub queue-next : {a b : List ℕ} {q n r : ℕ} → q < n → Queue e cap a q n → Tried e t cap (Touches e (turnItem cap a q)) a n b r → Queue e cap b (q + 1) r
-  queue-next {a} {b} {q} {n} {r} l Q A k m z =
+  pub queue-next : {a b : List ℕ} {q n r : ℕ} (x : ℕ) → x ≡ cap + cap + q → q < n → Queue e cap a q n
+      → Tried e t cap (Touches e (getD a x 0)) a n b r → Queue e cap b (q + 1) r
+  queue-next {a} {b} {q} {n} {r} x ex l Q A k m z =
       let g : n ≤ r = A .grows in
       ⊎-elim
-      (λ (h : (getD a k 0 ≡ 1) × (Touches e (turnItem cap a q) k → ⊥)).
+      (λ (h : (getD a k 0 ≡ 1) × (Touches e (getD a x 0) k → ⊥)).
       let o : (p : ℕ) × (q ≤ p) × (p < n) × Touches e (turnItem cap a p) k = Q k m (h .0) in
       ⊎-elim
-      (λ (x : q ≡ o .0). absurd (h .1 (subst (λ (p : ℕ). Touches e (turnItem cap a p) k) (sym x) (o .3))))
+      (λ (y : q ≡ o .0). absurd (h .1 (subst (λ (j : ℕ). Touches e (getD a j 0) k) (omega arith) (o .3))))
       (λ (x : q < o .0). (o .0, omega arith, omega arith, subst (λ (v : ℕ). Touches e v k) (sym (A .kept (o .0) (o .2))) (o .3)))
       (eq-or-lt-of-le (o .1)))
       (λ (h : (p : ℕ) × (n ≤ p) × (p < r) × Touches e (turnItem cap b p) k). (h .0, omega arith, h .2, h .3))

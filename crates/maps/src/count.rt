@@ -4,7 +4,7 @@ ghost use mathlib.Core.Path.{_≡_};
 ghost use Prim.Native.Nat.{ℕ, _+_, _*_, _<_, _≤_};
 ghost use lib.ListN.{length, getD};
 ghost use Rattle.maps.specs.Jam.{Touches};
-ghost use Rattle.maps.specs.Inner.Work.{PutAt, Put, Zeros};
+ghost use Rattle.maps.specs.Inner.Work.{PutAt, Put, Blank};
 ghost use Rattle.maps.specs.Inner.Ready.{hashOf, graph, cellsOf, Spread, CellsAt, Ready, Counted};
 use crate::Map;
 use crate::Touched;
@@ -74,7 +74,7 @@ pub fn take_item(work: &mut [u16], cap: usize, at: Touched, i: u16)
 
 // Puts all items in, over counts and xors that are 0.
 pub fn count_all(map: Map, keys: &[u64], left: &[u16], right: &[u16], work: &mut [u16])
-    requires { ⌜ Ready map (now keys) (now left) (now right) × (6 * map .m ≤ length (now work)) × Zeros (6 * map .m) (now work) ⌝ }
+    requires { ⌜ Ready map (now keys) (now left) (now right) × Blank (6 * map .m) (now work) ⌝ }
     ensures { λ _. ⌜ Counted map (now (keys .entry)) (map .t) (now (work .entry)) (now (work .exit)) ⌝ }
 {
     let m = map.m;

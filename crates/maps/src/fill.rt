@@ -2,7 +2,7 @@
 ghost use mathlib.Core.Path.{_≡_};
 ghost use Prim.Native.Nat.{_*_, _≤_, _<_};
 ghost use lib.ListN.{length};
-ghost use Rattle.maps.specs.Inner.Work.{Zeros};
+ghost use Rattle.maps.specs.Inner.Work.{Blank};
 ghost use Rattle.maps.specs.Inner.Ready.{AtTurn, fixed, FilledAll};
 use crate::Map;
 use crate::count;
@@ -40,7 +40,7 @@ pub fn fill_all(
     cells: &mut [u16],
     work: &[u16],
 )
-    requires { ⌜ AtTurn map (now keys) (now left) (now right) (now work) (map .t) × (3 * map .m ≤ length (now cells)) × Zeros (3 * map .m) (now cells) ⌝ }
+    requires { ⌜ AtTurn map (now keys) (now left) (now right) (now work) (map .t) × Blank (3 * map .m) (now cells) ⌝ }
     ensures { λ _. ⌜ FilledAll map (now (keys .entry)) (now (cells .entry)) (now (cells .exit)) ⌝ }
 {
     let t = map.t;

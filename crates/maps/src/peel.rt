@@ -1,7 +1,7 @@
 // Peels items that are alone at a cell, as long as there are any. After the counts and xors the work holds a stack of the items peeled, and
 // after that a stack of the cells that they were alone at.
 ghost use mathlib.Core.Path.{_≡_};
-ghost use Prim.Native.Nat.{ℕ, _+_, _*_, _<_, _≤_};
+ghost use Prim.Native.Nat.{_+_, _*_, _<_, _≤_};
 ghost use lib.ListN.{length, getD};
 ghost use Rattle.maps.specs.Jam.{Touches};
 ghost use Rattle.maps.specs.Inner.Work.{Queue};

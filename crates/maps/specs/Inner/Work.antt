@@ -5,7 +5,7 @@ use mathlib.Core.Bool.{Bool, cond}
 use mathlib.Core.List.{List}
 use mathlib.Core.Logic.{_⊎_}
 use Prim.Native.Nat.{ℕ, zero, suc, _+_, _<_, _≤_}
-use lib.ListN.{getD}
+use lib.ListN.{length, getD}
 use lib.Bits.{bitXor}
 use Rattle.maps.specs.Jam.{Touches, sizeOf}
 use Rattle.maps.specs.Inner.Peel.{touchb, Peeling, still}
@@ -40,9 +40,10 @@ pub record Holds (t cap : ℕ) (s : ℕ → ℕ → Bool) (w : List ℕ) : Type 
   pub count : (c : ℕ) → c < cap → getD w c 0 ≡ sizeOf (s c) t
   pub xor : (c : ℕ) → c < cap → getD w (cap + c) 0 ≡ xorOf (s c) t
 
--- the first m places are 0
-abbrev pub Zeros : ℕ → List ℕ → Type 0
-Zeros m xs = (k : ℕ) → k < m → getD xs k 0 ≡ 0
+-- the first m places are there, and 0
+pub record Blank (m : ℕ) (xs : List ℕ) : Type 0 where
+  pub long : m ≤ length xs
+  pub zeros : (k : ℕ) → k < m → getD xs k 0 ≡ 0
 
 -- b is as a from place m on
 abbrev pub Beyond : ℕ → List ℕ → List ℕ → Type 0

@@ -1,16 +1,13 @@
 -- `maps::build::build` meets its contract: the items are peeled, the cells are filled where all of them are, and the law `built` says what that
 -- means. Assumes nothing.
-use mathlib.Core.Path.{_≡_, _∙_}
+use mathlib.Core.Path.{_∙_}
 use mathlib.Core.Logic.{⊎-elim}
 use Prim.Native.Nat.{_*_}
-use native.Mathlib.Omega.{arith}
 use denote.Ref.{now}
-use lib.ListN.{length}
-use Rattle.items.specs.Items.{itemsOf}
 use Rattle.maps.specs.declared.Map.{Map}
 use Rattle.maps.specs.Inner.Ready.{Ready}
-use Rattle.maps.proofs.Clearing.{cleared-zeros}
-use Rattle.maps.proofs.Building.{Ended, ended-filled, ended-left, work-size, built}
+use Rattle.maps.proofs.Clearing.{cleared-blank}
+use Rattle.maps.proofs.Building.{Ended, ended-filled, ended-left, room-cells, room-work, built}
 use borrow.Author.Needs.{needs}
 use Rattle.maps.proofs.build.build.Statement.{statement}
 use Rattle.maps.proofs.build.build.Tie as tie
@@ -41,9 +38,16 @@ ready k =
     record { known = start k .pre .0; all = counted .0; few = counted .1; size = sized .0; fits = sized .1 }
 
 -- where the arms of the branch meet
+abbrev cleared-at : tie.Joined1 → tie.After-clear
+cleared-at j = clearing (peeled j)
+
 ended : (j : tie.Joined1)
-    → Ended (map (clearing (peeled j))) (now (start (clearing (peeled j)) .args .keys)) (peeled j .peel-all .result) (clearing (peeled j) .clear .last .0) (j .if1 .cells)
-ended j = ⊎-elim (λ h. ended-filled (h .0 .taken) (h .3 .ensures) (h .3 .kept .1 .1 .1 .1 .0) (h .6)) (λ h. ended-left (h .0 .left) (h .1)) (j .if1 .came)
+    → Ended (map (cleared-at j)) (now (start (cleared-at j) .args .keys)) (peeled j .peel-all .result) (cleared-at j .clear .last .0) (j .if1 .cells)
+ended j =
+    ⊎-elim
+    (λ h. ended-filled (h .0 .taken) (h .3 .ensures) (h .3 .kept .1 .1 .1 .1 .0) (h .6))
+    (λ h. ended-left (h .0 .left) (h .1))
+    (j .if1 .came)
 
 clear-requires : tie.Need-clear-requires
 clear-requires c κs = search needs
@@ -51,29 +55,29 @@ clear-requires c κs = search needs
 peel-all-requires : tie.Need-peel-all-requires
 peel-all-requires c κs =
     let k = c .before .before .before in
-    let s = start k in
-    (ready k, rw (work-size (map k .m) (map k .t) (length (itemsOf (s .args .which) (now (s .args .keys)))) (ready k .size) (ready k .all)) (s .pre .1 .forWork))
+    (ready k, room-work (ready k) (start k .pre .1))
 
 fill-all-requires : tie.Need-fill-all-requires
 fill-all-requires c κs =
     let then = c .before .before in
     let p = then .before .before .before in
     let k = clearing p in
-    let s = start k in
-    let l : length (k .clear .last .0) ≡ length (now (s .args .cells)) = k .clear .kept .0 in
-    (rw (then .if1 .taken) at (p .peel-all .ensures .turn), omega (arith, s .pre .1 .forCells), cleared-zeros (3 * map k .m) (now (s .args .cells)) (k .clear .ensures))
+    let s = start k in (
+      rw (then .if1 .taken) at (p .peel-all .ensures .turn),
+      cleared-blank (3 * map k .m) (now (s .args .cells)) (k .clear .ensures) (k .clear .kept .0) (room-cells (ready k) (s .pre .1)),
+    )
 
 same-length : tie.Need-same-length
 same-length c =
     let j = c .before .before .before .before in
-    ended j .long ∙ clearing (peeled j) .clear .kept .0
+    ended j .long ∙ cleared-at j .clear .kept .0
 
 returns : tie.Need-returns
 returns c =
     let j = c .before .before .before .before in
-    let p = peeled j in
-    let k = clearing p in
-    built (k .clear .ensures) (k .clear .kept .0) (p .peel-all .kept .1 .1 .1 .1 .0) (p .peel-all .ensures) (c .before .before .clear2 .ensures) (ended j)
+    let p = peeled j .peel-all in
+    let k = cleared-at j .clear in
+    built (k .ensures) (k .kept .0) (p .ensures) (p .kept .1 .1 .1 .1 .0) (c .before .before .clear2 .ensures) (ended j)
 
 pub build-spec : {M : Type 1} → statement M
 build-spec =

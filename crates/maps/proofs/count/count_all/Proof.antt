@@ -1,13 +1,11 @@
 -- `maps::count::count_all` meets its contract. The loop's invariant: the first i items are counted, and the work from 6 * m on is as it was.
 -- The measure is what is left of the items. Assumes nothing.
 use mathlib.Core.Path.{_≡_, refl, _∙_}
-use mathlib.Core.List.{List}
-use Prim.Native.Nat.{ℕ, _+_, _-_, _*_, _≤_, _<_}
+use Prim.Native.Nat.{_-_, _≤_}
 use native.Mathlib.Omega.{arith}
 use denote.Ref.{now}
 use lib.ListN.{length}
-use Rattle.maps.specs.Inner.Work.{Put}
-use Rattle.maps.specs.Inner.Ready.{graph, Counted}
+use Rattle.maps.specs.Inner.Ready.{Counted}
 use Rattle.maps.proofs.Puts.{touch-below, put-as}
 use Rattle.maps.proofs.Counting.{counted-none, counted-few, counted-more}
 use borrow.Author.Needs.{needs}
@@ -27,7 +25,7 @@ start k = k .before .before .before .before
 loop-holds : tie.Need-loop-holds Inv-loop μ-loop
 loop-holds c =
     let s = c .before .before .before .before in
-    (omega arith, refl, counted-none (s .args .map) (now (s .args .keys)) (now (s .args .work)) (s .pre .2))
+    (omega arith, refl, counted-none (s .args .map) (now (s .args .keys)) (now (s .args .work)) (s .pre .1))
 
 put-item-requires : tie.Need-put-item-requires Inv-loop μ-loop
 put-item-requires c κs =

@@ -1,12 +1,9 @@
 -- `maps::count::take_item` meets its contract: the three cells rise, so a store at one leaves the counts at the others. Assumes nothing.
 use mathlib.Core.Path.{_≡_, refl, _∙_}
-use mathlib.Core.List.{List}
 use mathlib.Core.Logic.{inl, inr}
-use Prim.Native.Nat.{ℕ}
 use native.Mathlib.Omega.{arith}
 use denote.Ref.{now}
 use lib.ListN.{length}
-use Rattle.maps.specs.Inner.Ready.{cellsOf}
 use Rattle.maps.proofs.Puts.{puts, other-kept}
 use borrow.Author.Needs.{needs}
 use Rattle.maps.proofs.count.take_item.Statement.{statement}

@@ -22,7 +22,7 @@ start k = k .before .before .before .before .before .before
 loop-holds : tie.Need-loop-holds Inv-loop μ-loop
 loop-holds c =
     let s = c .before .before .before .before .before in
-    (omega arith, refl, fill-none (s .pre .0) (s .args .map .t - 0) (omega arith) (s .pre .2))
+    (omega arith, refl, fill-none (s .pre .0) (s .args .map .t - 0) (omega arith) (s .pre .1))
 
 fill-turn-requires : tie.Need-fill-turn-requires Inv-loop μ-loop
 fill-turn-requires c κs =

@@ -1,11 +1,12 @@
 -- `maps::fill::fill_turn` meets its contract: the work holds the turn's item and cell, and what the calls ensure is put into the store.
 -- Assumes nothing.
-use mathlib.Core.Path.{_≡_}
+use mathlib.Core.Path.{_≡_, refl, ap}
 use Prim.Native.Nat.{ℕ, _+_, _*_, _<_}
 use native.Mathlib.Omega.{arith}
 use denote.Ref.{now}
 use lib.ListN.{getD}
 use Rattle.maps.specs.Inner.Work.{turnItem, turnCell}
+use Rattle.maps.proofs.Trying.{turn-small}
 use Rattle.maps.proofs.Filling.{stored, cell-below}
 use borrow.Author.Needs.{needs}
 use Rattle.maps.proofs.fill.fill_turn.Statement.{statement}
@@ -22,15 +23,15 @@ abbrev C : tie.Start → ℕ
 C s = getD (now (s .args .work)) (6 * s .args .map .m + s .args .p + s .args .map .t) 0
 
 item-at : (s : tie.Start) → I s ≡ turnItem (3 * s .args .map .m) (now (s .args .work)) (s .args .p)
-item-at s = let z : 6 * s .args .map .m + s .args .p ≡ 3 * s .args .map .m + 3 * s .args .map .m + s .args .p = omega arith in rw z
+item-at s = ap (λ (k : ℕ). getD (now (s .args .work)) k 0) (omega arith)
 
 cell-at : (s : tie.Start) → C s ≡ turnCell (3 * s .args .map .m) (s .args .map .t) (now (s .args .work)) (s .args .p)
-cell-at s =
-    let z : 6 * s .args .map .m + s .args .p + s .args .map .t ≡ 3 * s .args .map .m + 3 * s .args .map .m + s .args .map .t + s .args .p = omega arith in
-    rw z
+cell-at s = ap (λ (k : ℕ). getD (now (s .args .work)) k 0) (omega arith)
 
 below : (s : tie.Start) → (I s < s .args .map .t) × (C s < 3 * s .args .map .m)
-below s = (rw (item-at s) (s .pre .0 .peeled .order .small (s .args .p) (s .pre .2)), rw (cell-at s) (cell-below (s .pre .0) (s .args .p) (s .pre .2)))
+below s =
+    let A = s .pre .0 in
+    (turn-small (6 * s .args .map .m + s .args .p) A refl (s .pre .2), rw (cell-at s) (cell-below A (s .args .p) (s .pre .2)))
 
 cast-i : tie.Need-cast-i
 cast-i c = omega (arith, below (start (c .before)), start (c .before) .pre .0 .ready .few)

@@ -1,16 +1,13 @@
 -- `maps::peel::chase` meets its contract. The loop's invariant: a cell with one item left is touched by an item peeled at turn q or later.
 -- The measure is what is left of the turns. Assumes nothing.
 use mathlib.Core.Path.{_≡_, refl, _∙_}
-use mathlib.Core.List.{List}
 use Prim.Native.Nat.{ℕ, _+_, _-_, _*_, _≤_, _<_}
 use native.Mathlib.Omega.{arith}
-use denote.Ref.{now}
 use lib.ListN.{length, getD}
-use Rattle.maps.specs.Jam.{Touches}
-use Rattle.maps.specs.Inner.Work.{Beyond, Queue, turnItem}
-use Rattle.maps.specs.Inner.Ready.{graph, AtTurn, TriedAt}
+use Rattle.maps.specs.Inner.Work.{Beyond, Queue}
+use Rattle.maps.specs.Inner.Ready.{graph, AtTurn}
 use Rattle.maps.proofs.Peeling.{at-most}
-use Rattle.maps.proofs.Trying.{next-turn, queue-next}
+use Rattle.maps.proofs.Trying.{next-turn, turn-small, queue-next}
 use borrow.Author.Needs.{needs}
 use Rattle.maps.proofs.peel.chase.Statement.{statement}
 use Rattle.maps.proofs.peel.chase.Tie as tie
@@ -26,14 +23,12 @@ abbrev μ-loop : tie.MeasureT-loop
 abbrev start : tie.After-slice-known Inv-loop μ-loop → tie.Start Inv-loop μ-loop
 start k = k .before .before .before .before
 
-abbrev map-m : tie.At-loop Inv-loop μ-loop → ℕ
-map-m k = start (k .before) .args .map .m
+-- the place of the item of turn q
+abbrev X : tie.In-loop Inv-loop μ-loop → ℕ
+X k = 6 * start (k .before .before) .args .map .m + k .before .loop .q
 
--- the item of turn q is one of the map's
-peeled-at : (k : tie.In-loop Inv-loop μ-loop) → getD (k .before .loop .work) (6 * map-m (k .before) + k .before .loop .q) 0 < start (k .before .before) .args .map .t
-peeled-at k =
-    let x : 6 * map-m (k .before) + k .before .loop .q ≡ 3 * map-m (k .before) + 3 * map-m (k .before) + k .before .loop .q = omega arith in
-    rw x (k .before .loop .inv .3 .peeled .order .small (k .before .loop .q) (k .loop-test .taken))
+small : (k : tie.In-loop Inv-loop μ-loop) → getD (k .before .loop .work) (X k) 0 < start (k .before .before) .args .map .t
+small k = turn-small (X k) (k .before .loop .inv .3) refl (k .loop-test .taken)
 
 loop-holds : tie.Need-loop-holds Inv-loop μ-loop
 loop-holds c =
@@ -41,29 +36,24 @@ loop-holds c =
     (omega arith, at-most (s .pre .0 .peeled), refl, s .pre .0, s .pre .1, λ k l. refl)
 
 cast-i : tie.Need-cast-i Inv-loop μ-loop
-cast-i c = omega (arith, peeled-at (c .before), c .before .before .loop .inv .3 .ready .few)
+cast-i c = omega (arith, small (c .before), c .before .before .loop .inv .3 .ready .few)
 
 try-three-requires : tie.Need-try-three-requires Inv-loop μ-loop
-try-three-requires c κs = (c .before .before .before .loop .inv .3, peeled-at (c .before .before))
+try-three-requires c κs = (c .before .before .before .loop .inv .3, small (c .before .before))
 
 loop-again : tie.Need-loop-again Inv-loop μ-loop
 loop-again c =
     let called = c .before .before in
-    let at-loop = called .before .before .before .before in
-    let map = start (at-loop .before) .args .map in
-    let e = graph map (now (start (at-loop .before) .args .keys)) in
-    let w : List ℕ = at-loop .loop .work in
-    let q = at-loop .loop .q in
-    let x : 6 * map .m + q ≡ 3 * map .m + 3 * map .m + q = omega arith in
-    let A : TriedAt map (now (start (at-loop .before) .args .keys)) (Touches e (turnItem (3 * map .m) w q)) w (at-loop .loop .n) (called .try-three .last .1 .1 .1 .1 .0) (called .try-three .result) =
-    rw x at (called .try-three .ensures) in
-    let g : at-loop .loop .n ≤ called .try-three .result = A .grows in (
+    let in-loop = called .before .before .before in
+    let inv = in-loop .before .loop .inv in
+    let tried = called .try-three .ensures in
+    let grown = tried .grows in (
       omega arith,
-      at-most (A .peeled),
-      called .try-three .kept .1 .1 .1 .1 .0 ∙ at-loop .loop .inv .2,
-      next-turn (at-loop .loop .inv .3) (called .try-three .kept .1 .1 .1 .1 .0) (A .peeled),
-      queue-next (omega arith) (at-loop .loop .inv .4) A,
-      λ k l. A .beyond k (omega arith) ∙ at-loop .loop .inv .5 k l,
+      at-most (tried .peeled),
+      called .try-three .kept .1 .1 .1 .1 .0 ∙ inv .2,
+      next-turn (inv .3) (called .try-three .kept .1 .1 .1 .1 .0) (tried .peeled),
+      queue-next (X in-loop) (omega arith) (in-loop .loop-test .taken) (inv .4) tried,
+      λ k l. tried .beyond k (omega arith) ∙ inv .5 k l,
     )
 
 returns : tie.Need-returns Inv-loop μ-loop

@@ -4,9 +4,8 @@ use Prim.Native.Nat.{_*_}
 use native.Mathlib.Omega.{arith}
 use denote.Ref.{now}
 use lib.ListN.{length}
-use Rattle.maps.specs.Inner.Ready.{AtTurn}
-use Rattle.maps.proofs.Clearing.{cleared-zeros, cleared-beyond}
-use Rattle.maps.proofs.Trying.{first-turn, next-turn, tried-queue}
+use Rattle.maps.proofs.Clearing.{cleared-blank, cleared-beyond}
+use Rattle.maps.proofs.Trying.{first-turn, tried-queue}
 use borrow.Author.Needs.{needs}
 use Rattle.maps.proofs.peel.peel_all.Statement.{statement}
 use Rattle.maps.proofs.peel.peel_all.Tie as tie
@@ -17,26 +16,28 @@ clearing k = k .before .before .before .before
 abbrev start : tie.After-clear → tie.Start
 start k = k .before .before .before .before .before .before
 
-counted : (k : tie.After-count-all)
-    → AtTurn (start (clearing k) .args .map) (now (start (clearing k) .args .keys)) (now (start (clearing k) .args .left)) (now (start (clearing k) .args .right)) (k .count-all .last .1 .1 .1 .1 .0) 0
-counted k =
-    let s = start (clearing k) in
-    let l : length (k .count-all .last .1 .1 .1 .1 .0) ≡ length (now (s .args .work)) = k .count-all .kept .1 .1 .1 .1 .0 ∙ clearing k .clear .kept .0 in
-    first-turn (s .pre .0) (omega arith) (k .count-all .ensures)
+-- counting keeps the length of the work
+long : (k : tie.After-count-all) → length (k .count-all .last .1 .1 .1 .1 .0) ≡ length (now (start (clearing k) .args .work))
+long k = k .count-all .kept .1 .1 .1 .1 .0 ∙ clearing k .clear .kept .0
 
 count-all-requires : tie.Need-count-all-requires
 count-all-requires c κs =
     let k = c .before .before .before in
-    let l : length (k .clear .last .0) ≡ length (now (start k .args .work)) = k .clear .kept .0 in
-    (start k .pre .0, omega arith, cleared-zeros (6 * start k .args .map .m) (now (start k .args .work)) (k .clear .ensures))
+    let s = start k in
+    (s .pre .0, cleared-blank (6 * s .args .map .m) (now (s .args .work)) (k .clear .ensures) (k .clear .kept .0) (omega arith))
 
 scan-requires : tie.Need-scan-requires
-scan-requires c κs = counted (c .before .before .before)
+scan-requires c κs =
+    let k = c .before .before .before in
+    first-turn (start (clearing k) .pre .0) (omega (arith, long k)) (k .count-all .ensures)
 
 chase-requires : tie.Need-chase-requires
 chase-requires c κs =
     let p = c .before .before .before in
-    (next-turn (counted (p .before .before .before .before)) (p .scan .kept .1 .1 .1 .1 .0) (p .scan .ensures .peeled), tried-queue (p .scan .ensures))
+    let k = p .before .before .before .before in
+    let s = start (clearing k) in
+    let l : length (p .scan .last .1 .1 .1 .1 .0) ≡ length (now (s .args .work)) = p .scan .kept .1 .1 .1 .1 .0 ∙ long k in
+    (record { ready = s .pre .0; long = omega arith; peeled = p .scan .ensures .peeled }, tried-queue (p .scan .ensures))
 
 returns : tie.Need-returns
 returns c =

@@ -1,4 +1,5 @@
--- `maps::peel::scan` meets its contract. The loop's invariant: the cells below c were tried. The measure is what is left of the cells. Assumes nothing.
+-- `maps::peel::scan` meets its contract. The loop's invariant: the cells below c were tried. The measure is what is left of the cells.
+-- Assumes nothing.
 use mathlib.Core.Path.{_≡_, refl, _∙_}
 use Prim.Native.Nat.{_-_, _*_, _≤_, _<_}
 use native.Mathlib.Omega.{arith}
@@ -31,7 +32,8 @@ loop-again : tie.Need-loop-again Inv-loop μ-loop
 loop-again c =
     let called = c .before .before in
     let at-loop = called .before .before .before in
-    (omega arith, called .try-peel .kept .1 .1 .1 .1 .0 ∙ at-loop .loop .inv .1, tried-next (at-loop .loop .c) (at-loop .loop .inv .2) (called .try-peel .ensures))
+    let inv = at-loop .loop .inv in
+    (omega arith, called .try-peel .kept .1 .1 .1 .1 .0 ∙ inv .1, tried-next (at-loop .loop .c) (inv .2) (called .try-peel .ensures))
 
 returns : tie.Need-returns Inv-loop μ-loop
 returns c =

@@ -26,7 +26,8 @@ try-peel-requires-3 c κs =
     let p2 = c .before .before .before in
     let p1 = first p2 in
     let found = cells p1 .cells-at .ensures .spread in
-    (next-turn (start p1 .pre .0) (p2 .try-peel2 .kept .1 .1 .1 .1 .0 ∙ p1 .try-peel .kept .1 .1 .1 .1 .0) (p2 .try-peel2 .ensures .peeled), omega arith)
+    let kept = p2 .try-peel2 .kept .1 .1 .1 .1 .0 ∙ p1 .try-peel .kept .1 .1 .1 .1 .0 in
+    (next-turn (start p1 .pre .0) kept (p2 .try-peel2 .ensures .peeled), omega arith)
 
 returns : tie.Need-returns
 returns c =
