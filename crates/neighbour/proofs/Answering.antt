@@ -1,0 +1,189 @@
+-- The theorems on the walk: over what an accepted build leaves it is the walk over the table alone, which counts the smaller keys, and over
+-- any stores it makes few probes. Assumes nothing.
+use mathlib.Core.Path.{_≡_, refl, sym, ap, _∙_}
+use mathlib.Core.Bool.{true, false, cond, _&&_}
+use mathlib.Core.List.{List, []}
+use Prim.Native.Nat.{ℕ, zero, suc, _-_, _≤_, _<_, zero-le}
+use native.Mathlib.Nat.{le-refl, le-of-lt, le-trans}
+use native.Mathlib.Omega.{arith}
+use borrow.Author.Tests.{ltb-true, leb-true, leb-false, eqb-true, eqb-false, lt-ltb, le-leb, ne-eqb}
+use lib.Dec.{leb, ltb, eqb}
+use lib.ListN.{length, getD}
+use lib.Pow.{shr-mono}
+use Rattle.words.specs.Keys.{firstBits, prefixItem}
+use Rattle.words.specs.Fat.{binaryDigits}
+use Rattle.words.proofs.Probing.{probes-from}
+use Rattle.tables.specs.Tables.{keyAt, Table, smaller}
+use Rattle.splits.specs.Splits.{len, root, leftEntry, rightEntry}
+use Rattle.splits.proofs.Bools.{both, by-test}
+use Rattle.splits.proofs.Rows.{less-by, len-lt}
+use Rattle.splits.proofs.Parents.{root-pos, root-lt, root-all, left-root, left-split, right-split}
+use Rattle.neighbour.specs.Walk.{onPath, Descent, descend, Answer, before, spoiled, Walk, decide, walk, pathWalk, storeWalk, Stored}
+use Rattle.neighbour.proofs.Paths.{OnPath}
+use Rattle.neighbour.proofs.Descending.{onward-split, Deepest, descend-path, descend-deep, descend-probes}
+use Rattle.neighbour.proofs.Deciding.{decides, smaller-low, smaller-high, smaller-most}
+
+abbrev pub halt : ℕ → Answer → Walk
+halt m a = record { probed = []; node = m; answer = a }
+
+abbrev pub ended : List ℕ → ℕ → (lefts rights : ℕ → ℕ) → Descent → Walk
+ended T x lefts rights d = record { probed = d .probed; node = d .node; answer = decide T x (lefts (d .node)) (d .node) (rights (d .node)) }
+
+-- the walk case by case
+module _ (T : List ℕ) (x : ℕ) (find lefts rights : ℕ → ℕ) where
+  pub walk-none : length T ≡ 0 → walk T x find lefts rights ≡ halt 0 (before 0)
+  unfolding walk
+  walk-none e = rw e
+
+  pub walk-one : length T ≡ 1 → walk T x find lefts rights ≡ halt 0 (before (cond (leb x (keyAt T 0)) 0 1))
+  unfolding walk
+  walk-one e = rw e
+
+  -- the root split is one
+  abbrev pub Rooted : ℕ → Type 0
+  Rooted r = (0 < r) × (r < length T) × (len T r ≤ 63)
+
+  pub walk-off : 2 ≤ length T → (r : ℕ) → lefts 0 ≡ r → Rooted r → onPath T x r ≡ false → walk T x find lefts rights ≡ halt r (before (cond (leb x (keyAt T r)) 0 (length T)))
+  unfolding walk
+  walk-off h r e R off =
+      rw (ne-eqb (length T) 0 (λ z. omega arith), ne-eqb (length T) 1 (λ z. omega arith), e, le-leb 1 r (R .0), lt-ltb r (length T) (R .1), le-leb (len T r) 63 (R .2), off)
+
+  pub walk-on : 2 ≤ length T → (r : ℕ) → lefts 0 ≡ r → Rooted r → onPath T x r ≡ true
+      → walk T x find lefts rights ≡ ended T x lefts rights (descend T x find 64 r 64)
+  unfolding walk
+  walk-on h r e R on =
+      rw (ne-eqb (length T) 0 (λ z. omega arith), ne-eqb (length T) 1 (λ z. omega arith), e, le-leb 1 r (R .0), lt-ltb r (length T) (R .1), le-leb (len T r) 63 (R .2), on)
+
+  pub walk-bad : 2 ≤ length T → (r : ℕ) → lefts 0 ≡ r → (Rooted r → ⊥) → walk T x find lefts rights ≡ halt r spoiled
+  unfolding walk
+  walk-bad h r e fails =
+      rw (ne-eqb (length T) 0 (λ z. omega arith), ne-eqb (length T) 1 (λ z. omega arith), e)
+      (by-test (leb 1 r && (ltb r (length T) && leb (len T r) 63))
+      (λ k. let p = both (leb 1 r) _ k in let q = both (ltb r (length T)) (leb (len T r) 63) (p .1) in
+      absurd (fails (leb-true 1 r (p .0), ltb-true r (length T) (q .0), leb-true (len T r) 63 (q .1))))
+      (λ k. rw k))
+
+  -- a walk makes no probes, or those from its root on
+  few-probes : (k : ℕ) → (len T (lefts 0) ≤ 63 → length (descend T x find 64 (lefts 0) 64 .probed) ≤ k) → length (walk T x find lefts rights .probed) ≤ k
+  unfolding walk
+  few-probes k few =
+      let r = lefts 0 in
+      by-test (eqb (length T) 0) (λ e. rw e zero-le)
+      (λ e. rw e (by-test (eqb (length T) 1) (λ e₁. rw e₁ zero-le)
+      (λ e₁. rw e₁ (by-test (leb 1 r) (λ e₂. rw e₂ (by-test (ltb r (length T)) (λ e₃. rw e₃ (by-test (leb (len T r) 63)
+      (λ e₄. rw e₄ (by-test (onPath T x r) (λ e₅. rw e₅ (few (leb-true (len T r) 63 e₄))) (λ e₅. rw e₅ zero-le)))
+      (λ e₄. rw e₄ zero-le))) (λ e₃. rw e₃ zero-le))) (λ e₂. rw e₂ zero-le)))))
+
+  bound : len T (lefts 0) ≤ 63
+      → let made = length (descend T x find 64 (lefts 0) 64 .probed) in let most = binaryDigits (63 - len T (lefts 0)) in (made ≤ most) × (most ≤ 6)
+  bound h = probes-from (len T (lefts 0)) (omega arith) (descend-probes T x find 64 (lefts 0) 64 (omega arith))
+
+  -- W5: over any stores the probes are no more than 63 - len of the root split has binary digits
+  pub walk-probes : length (walk T x find lefts rights .probed) ≤ binaryDigits (63 - len T (lefts 0))
+  walk-probes = few-probes (binaryDigits (63 - len T (lefts 0))) (λ h. bound h .0)
+
+  -- and six at most
+  pub walk-six : length (walk T x find lefts rights .probed) ≤ 6
+  walk-six = few-probes 6 (λ h. le-trans (bound h .0) (bound h .1))
+
+-- a table has no rows, one, or more
+by-size : {A : Type 0} (n : ℕ) → (n ≡ 0 → A) → (n ≡ 1 → A) → (2 ≤ n → A) → A
+by-size zero p q r = p refl
+by-size (suc zero) p q r = q refl
+by-size (suc (suc n)) p q r = r (omega arith)
+
+module _ (T : List ℕ) (t : Table T) (x : ℕ) where
+  rooted : 2 ≤ length T → (0 < root T) × (root T < length T) × (len T (root T) ≤ 63)
+  rooted h =
+      let p = root-pos T h in
+      let s = root-lt T h in
+      (p, s, omega (arith, len-lt T t (root T) p s))
+
+  root-path : 2 ≤ length T → onPath T x (root T) ≡ true → OnPath T x (root T)
+  root-path h e = record { pos = root-pos T h; small = root-lt T h; same = eqb-true _ _ e }
+
+  -- the walk over the table ends at the deepest split on x's path
+  end-deepest : 2 ≤ length T → onPath T x (root T) ≡ true → Deepest T x (descend T x (onward-split T x) 64 (root T) 64 .node)
+  end-deepest h e =
+      descend-deep T t x 64 (root T) 64 (root-path h e) (le-refl 64) (λ k P. len-lt T t k (P .pos) (P .small)) (omega arith)
+
+  -- a key without the root's string stands before all rows or after all
+  off-root : 2 ≤ length T → onPath T x (root T) ≡ false → cond (leb x (keyAt T (root T))) 0 (length T) ≡ smaller T x
+  off-root h off =
+      let r = root T in
+      let L = len T r in
+      let q = root-lt T h in
+      let c = smaller T x in
+      let apart = eqb-false (firstBits L x) (firstBits L (keyAt T r)) off in
+      by-test (leb x (keyAt T r))
+      (λ e. rw e (
+      let le : firstBits L x ≤ firstBits L (keyAt T r) = shr-mono (64 - L) (leb-true x (keyAt T r) e) in
+      let first = less-by L x (keyAt T 0) (omega (arith, apart, root-all T t 0 (omega arith) h)) in
+      let no : ¬ (0 < c) = λ g. (omega (arith, smaller-low T t x 0 g)) in
+      omega arith))
+      (λ e. rw e (
+      let le : firstBits L (keyAt T r) ≤ firstBits L x = shr-mono (64 - L) (le-of-lt (leb-false x (keyAt T r) e)) in
+      let no : ¬ (c < length T) = λ g. (
+      let last = less-by L (keyAt T c) x (omega (arith, apart, root-all T t c g h)) in
+      omega (arith, smaller-high T t x c (le-refl c) g)) in
+      omega (arith, smaller-most T t x)))
+
+  one-row : length T ≡ 1 → cond (leb x (keyAt T 0)) 0 1 ≡ smaller T x
+  one-row e =
+      let c = smaller T x in
+      by-test (leb x (keyAt T 0))
+      (λ k. rw k (let no : ¬ (0 < c) = λ g. (omega (arith, smaller-low T t x 0 g, leb-true x (keyAt T 0) k)) in omega arith))
+      (λ k. rw k (let no : ¬ (c ≤ 0) = λ g. (omega (arith, smaller-high T t x 0 g (omega arith), leb-false x (keyAt T 0) k)) in omega (arith, smaller-most T t x)))
+
+  -- W4: the walk over the table counts the smaller keys, and refuses nothing
+  pub path-answer : pathWalk T x .answer ≡ before (smaller T x)
+  unfolding pathWalk
+  path-answer =
+      let find = onward-split T x in
+      let ls = leftEntry T in
+      let rs = rightEntry T in
+      by-size (length T)
+      (λ e. rw (walk-none T x find ls rs e) (let none : 0 ≡ smaller T x = omega (arith, smaller-most T t x) in ap before none))
+      (λ e. rw (walk-one T x find ls rs e) (ap before (one-row e)))
+      (λ h. by-test (onPath T x (root T))
+      (λ on.
+      let D = end-deepest h on in
+      let m = descend T x find 64 (root T) 64 .node in
+      rw (walk-on T x find ls rs h (root T) (left-root T) (rooted h) on)
+      (rw (left-split T m (D .path .pos), right-split T m (D .path .pos)) (decides T t x m D)))
+      (λ off. rw (walk-off T x find ls rs h (root T) (left-root T) (rooted h) off) (ap before (off-root h off))))
+
+  -- W3: over what an accepted build leaves the walk is that over the table
+  pub stored-walk : (lookUp : ℕ → ℕ) (lefts rights : List ℕ) → Stored T lookUp lefts rights → storeWalk T x lookUp lefts rights ≡ pathWalk T x
+  unfolding pathWalk storeWalk
+  stored-walk lookUp lefts rights S =
+      let look : ℕ → ℕ = λ f. lookUp (prefixItem x f) in
+      let lefts′ : ℕ → ℕ = λ m. getD lefts m 0 in
+      let rights′ : ℕ → ℕ = λ m. getD rights m 0 in
+      let find = onward-split T x in
+      let ls = leftEntry T in
+      let rs = rightEntry T in
+      by-size (length T)
+      (λ e. walk-none T x look lefts′ rights′ e ∙ sym (walk-none T x find ls rs e))
+      (λ e. walk-one T x look lefts′ rights′ e ∙ sym (walk-one T x find ls rs e))
+      (λ h.
+      let at-root : lefts′ 0 ≡ root T = S .lefts-are 0 (omega arith) ∙ left-root T in
+      by-test (onPath T x (root T))
+      (λ on.
+      let D = end-deepest h on in
+      let d = descend T x find 64 (root T) 64 in
+      let same : descend T x look 64 (root T) 64 ≡ d = descend-path T t x lookUp (S .handles) 64 (root T) 64 (root-path h on) (le-refl 64) in
+      let s = D .path .small in
+      walk-on T x look lefts′ rights′ h (root T) at-root (rooted h) on
+      ∙ (rw (same, S .lefts-are (d .node) s, S .rights-are (d .node) s))
+      ∙ sym (walk-on T x find ls rs h (root T) (left-root T) (rooted h) on))
+      (λ off. walk-off T x look lefts′ rights′ h (root T) at-root (rooted h) off
+      ∙ sym (walk-off T x find ls rs h (root T) (left-root T) (rooted h) off)))
+
+  -- demand 3 over stored maps: the number of smaller keys, in at most as many probes as 63 - L has bits, L the bits that all keys share
+  pub stored-answer : (lookUp : ℕ → ℕ) (lefts rights : List ℕ) → Stored T lookUp lefts rights
+      → let w = storeWalk T x lookUp lefts rights in (w .answer ≡ before (smaller T x)) × (length (w .probed) ≤ binaryDigits (63 - len T (root T)))
+  unfolding pathWalk
+  stored-answer lookUp lefts rights S =
+      rw (stored-walk lookUp lefts rights S)
+      (path-answer, rw (left-root T) at (walk-probes T x (onward-split T x) (leftEntry T) (rightEntry T)))

@@ -1,0 +1,7 @@
+pub mod Paths
+pub mod Descending
+pub mod Deciding
+pub mod Answering
+pub mod Roots
+pub mod Steps
+pub mod Telling

@@ -1,0 +1,120 @@
+-- `neighbour::walk::decide` meets its contract: one law for each answer. Assumes nothing.
+use mathlib.Core.Path.{sym, ap, _∙_}
+use native.Mathlib.Omega.{arith}
+use Rattle.tables.specs.Delimiters.{delimiters}
+use Rattle.neighbour.specs.Ask.{saidByNeighbour, told}
+use Rattle.neighbour.proofs.Steps.{decide-spoiled, decide-first, decide-low, decide-high, decide-end}
+use borrow.Author.Needs.{needs}
+use Rattle.neighbour.proofs.walk.decide.Statement.{statement}
+use Rattle.neighbour.proofs.walk.decide.Tie as tie
+use Rattle.neighbour.proofs.walk.decide.Reads as reads
+use Rattle.neighbour.proofs.walk.decide.Lts as lts
+use Rattle.neighbour.proofs.walk.tell.Reads as tell-reads
+use Rattle.splits.proofs.split.len_at.Reads as len-at-reads
+use Rattle.tables.proofs.delimiter.delimiter_at.Reads as delimiter-at-reads
+
+returns : tie.Need-returns
+unfolding saidByNeighbour told
+returns c =
+    let a = c .before .before .args in
+    rw (decide-spoiled (delimiters (a .b) (a .keys .now)) (a .x) (a .first) (a .m) (a .end) (λ h g l. omega arith))
+
+returns-2 : tie.Need-returns-2
+unfolding saidByNeighbour told
+returns-2 c =
+    let a = c .before .before .before .args in
+    rw (decide-spoiled (delimiters (a .b) (a .keys .now)) (a .x) (a .first) (a .m) (a .end) (λ h g l. omega arith))
+
+returns-3 : tie.Need-returns-3
+unfolding saidByNeighbour told
+returns-3 c =
+    let a = c .before .before .before .before .args in
+    rw (decide-spoiled (delimiters (a .b) (a .keys .now)) (a .x) (a .first) (a .m) (a .end) (λ h g l. omega arith))
+
+len-at-requires : tie.Need-len-at-requires
+len-at-requires c κs = search needs
+
+sub-if4 : tie.Need-sub-if4
+sub-if4 c = search needs
+
+cast-if4 : tie.Need-cast-if4
+cast-if4 c = search needs
+
+shr-if4 : tie.Need-shr-if4
+shr-if4 c = search needs
+
+delimiter-at-requires : tie.Need-delimiter-at-requires
+delimiter-at-requires c κs = search needs
+
+tell-requires : tie.Need-tell-requires
+tell-requires c κs = search needs
+
+returns-4 : tie.Need-returns-4
+returns-4 c =
+    let p = c .before .before .before .before in
+    let a = p .before .before .before .before .before .args in
+    let T = delimiters (a .b) (a .keys .now) in
+    c .tell .ensures
+    ∙ ap (told T (a .x) (a .probes))
+    (sym (decide-first T (a .x) (a .first) (a .m) (a .end) (omega arith) (omega arith) (omega arith) (rw (p .len-at .ensures) at (c .before .before .before .if4 .taken)) (omega arith)))
+
+tell-requires-2 : tie.Need-tell-requires-2
+tell-requires-2 c κs = search needs
+
+returns-5 : tie.Need-returns-5
+returns-5 c =
+    let p = c .before .before .before .before in
+    let a = p .before .before .before .before .before .args in
+    let T = delimiters (a .b) (a .keys .now) in
+    c .tell2 .ensures
+    ∙ ap (told T (a .x) (a .probes))
+    (sym (decide-low T (a .x) (a .first) (a .m) (a .end) (omega arith) (omega arith) (omega arith) (rw (p .len-at .ensures) at (c .before .before .before .if4 .taken)) (omega arith)))
+
+delimiter-at-requires-2 : tie.Need-delimiter-at-requires-2
+delimiter-at-requires-2 c κs = search needs
+
+tell-requires-3 : tie.Need-tell-requires-3
+tell-requires-3 c κs = search needs
+
+returns-6 : tie.Need-returns-6
+returns-6 c =
+    let p = c .before .before .before .before in
+    let a = p .before .before .before .before .before .args in
+    let T = delimiters (a .b) (a .keys .now) in
+    c .tell3 .ensures
+    ∙ ap (told T (a .x) (a .probes))
+    (sym (decide-high T (a .x) (a .first) (a .m) (a .end) (omega arith) (omega arith) (omega arith) (rw (p .len-at .ensures) at (c .before .before .before .if4 .left)) (omega arith)))
+
+tell-requires-4 : tie.Need-tell-requires-4
+tell-requires-4 c κs = search needs
+
+returns-7 : tie.Need-returns-7
+returns-7 c =
+    let p = c .before .before .before .before in
+    let a = p .before .before .before .before .before .args in
+    let T = delimiters (a .b) (a .keys .now) in
+    c .tell4 .ensures
+    ∙ ap (told T (a .x) (a .probes))
+    (sym (decide-end T (a .x) (a .first) (a .m) (a .end) (omega arith) (omega arith) (omega arith) (rw (p .len-at .ensures) at (c .before .before .before .if4 .left)) (omega arith)))
+
+pub decide-spec : {M : Type 1} → statement M
+decide-spec =
+    tie.close
+    (tie.spec
+    returns
+    returns-2
+    returns-3
+    len-at-requires
+    sub-if4
+    cast-if4
+    shr-if4
+    delimiter-at-requires
+    tell-requires
+    returns-4
+    tell-requires-2
+    returns-5
+    delimiter-at-requires-2
+    tell-requires-3
+    returns-6
+    tell-requires-4
+    returns-7)

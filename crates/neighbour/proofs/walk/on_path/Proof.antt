@@ -1,0 +1,31 @@
+-- `neighbour::walk::on_path` meets its contract: two keys have the same first bits exactly if they share as many. Assumes nothing.
+use Prim.Native.Nat.{_-_}
+use native.Mathlib.Omega.{arith}
+use Rattle.words.proofs.Sharing.{shared-le}
+use Rattle.tables.specs.Tables.{keyAt}
+use Rattle.tables.specs.Delimiters.{delimiters}
+use Rattle.neighbour.proofs.Steps.{share-test}
+use borrow.Author.Needs.{needs}
+use Rattle.neighbour.proofs.walk.on_path.Statement.{statement}
+use Rattle.neighbour.proofs.walk.on_path.Tie as tie
+use Rattle.neighbour.proofs.walk.on_path.Reads as reads
+use Rattle.neighbour.proofs.walk.on_path.Lts as lts
+use Rattle.tables.proofs.delimiter.delimiter_at.Reads as delimiter-at-reads
+use Rattle.words.proofs.prefix.shared_bits.Reads as shared-bits-reads
+
+delimiter-at-requires : tie.Need-delimiter-at-requires
+delimiter-at-requires c κs = search needs
+
+shared-bits-requires : tie.Need-shared-bits-requires
+shared-bits-requires c κs = search needs
+
+returns : tie.Need-returns
+returns c =
+    let s = c .before .before .before in
+    let T = delimiters (s .args .b) (s .args .keys .now) in
+    let m = s .args .m in
+    let key = c .before .delimiter-at in
+    cc (share-test (s .args .x) (key .result) (s .args .l) (s .fits .x .fits) (key .ok) (omega (arith, shared-le (keyAt T (m - 1)) (keyAt T m))))
+
+pub on-path-spec : {M : Type 1} → statement M
+on-path-spec = tie.close (tie.spec delimiter-at-requires shared-bits-requires returns)

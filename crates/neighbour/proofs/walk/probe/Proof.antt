@@ -1,0 +1,106 @@
+-- `neighbour::walk::probe` meets its contract. Assumes nothing.
+use mathlib.Core.Path.{_≡_, sym, _∙_}
+use mathlib.Core.Bool.{true}
+use Prim.Native.Nat.{ℕ, _-_, _≤_, _<_}
+use native.Mathlib.Omega.{arith}
+use Rattle.words.proofs.Fatness.{fattest-one, fattest-of}
+use Rattle.tables.specs.Delimiters.{delimiters}
+use Rattle.splits.specs.Splits.{len}
+use Rattle.neighbour.specs.Walk.{probeAt, accepted}
+use Rattle.neighbour.specs.Inner.{handleValue}
+use Rattle.neighbour.proofs.Descending.{accepted-means}
+use Rattle.neighbour.proofs.Steps.{stepped-to, stepped-under}
+use borrow.Author.Needs.{needs}
+use Rattle.neighbour.proofs.walk.probe.Statement.{statement}
+use Rattle.neighbour.proofs.walk.probe.Tie as tie
+use Rattle.neighbour.proofs.walk.probe.Reads as reads
+use Rattle.neighbour.proofs.walk.probe.Lts as lts
+use Rattle.cells.proofs.look_up.Reads as look-up-reads
+use Rattle.neighbour.proofs.walk.accepts.Reads as accepts-reads
+use Rattle.neighbour.proofs.walk.handle_count.Reads as handle-count-reads
+use Rattle.splits.proofs.split.len_at.Reads as len-at-reads
+use Rattle.words.proofs.fattest.fattest.Reads as fattest-reads
+use Rattle.words.proofs.prefix.prefix_item.Reads as prefix-item-reads
+
+sub-fattest : tie.Need-sub-fattest
+sub-fattest c = search needs
+
+cast-fattest : tie.Need-cast-fattest
+cast-fattest c = search needs
+
+fattest-requires : tie.Need-fattest-requires
+fattest-requires c κs = search needs
+
+cast-f : tie.Need-cast-f
+cast-f c = search needs
+
+handle-count-requires : tie.Need-handle-count-requires
+handle-count-requires c κs = search needs
+
+prefix-item-requires : tie.Need-prefix-item-requires
+prefix-item-requires c κs = search needs
+
+look-up-requires : tie.Need-look-up-requires
+look-up-requires c κs = search needs
+
+cast-m : tie.Need-cast-m
+cast-m c = search needs
+
+accepts-requires : tie.Need-accepts-requires
+accepts-requires c κs = search needs
+
+-- the probe is at the length that the walk probes
+at : (c : tie.After-look-up) → let a = c .before .before .before .before .before .before .args in
+    c .before .before .before .fattest .result ≡ probeAt (delimiters (a .b) (a .keys .now)) (a .node) (a .upper)
+at c =
+    let s = c .before .before .before .before .before .before in
+    let l = len (delimiters (s .args .b) (s .args .keys .now)) (s .args .node) in
+    fattest-one (rw (s .pre .1 .is) at (c .before .before .before .fattest .ensures)) (fattest-of l (s .args .upper - 1) (omega arith) (omega arith))
+
+-- and map 3 says of it what the walk looks up
+found : (c : tie.After-look-up) → let a = c .before .before .before .before .before .before .args in
+    c .look-up .result ≡ handleValue (a .b) (a .keys .now) (a .handles .now) (a .seed3) (a .x) (c .before .before .before .fattest .result)
+found c = cc
+
+len-at-requires : tie.Need-len-at-requires
+len-at-requires c κs =
+    let s = c .before .before .before .before .before .before .before .before in
+    let a = s .args in
+    let T = delimiters (a .b) (a .keys .now) in
+    let ok = sym (c .before .accepts .ensures) ∙ c .if1 .taken in
+    let K = accepted-means T (a .x) (c .before .before .before .before .before .fattest .result) (a .upper) (c .before .before .look-up .result) ok in
+    record { bucketed = s .pre .0 .counted .bucketed; pos = K .path .pos; small = K .path .small }
+
+returns : tie.Need-returns
+returns c =
+    let p = c .before .before .before in
+    let a = p .before .before .before .before .before .before .args in
+    let T = delimiters (a .b) (a .keys .now) in
+    stepped-to T (a .x) (handleValue (a .b) (a .keys .now) (a .handles .now) (a .seed3) (a .x)) (a .node) (a .upper) (p .before .before .before .fattest .result)
+    (p .look-up .result) (at p) (found p) (c .len-at .result) (c .len-at .ensures) (sym (c .before .before .accepts .ensures) ∙ c .before .if1 .taken)
+
+returns-2 : tie.Need-returns-2
+returns-2 c =
+    let p = c .before .before in
+    let s = p .before .before .before .before .before .before in
+    let a = s .args in
+    let T = delimiters (a .b) (a .keys .now) in
+    stepped-under T (a .x) (handleValue (a .b) (a .keys .now) (a .handles .now) (a .seed3) (a .x)) (a .node) (a .upper) (p .before .before .before .fattest .result)
+    (p .look-up .result) (at p) (found p) (a .lower) (s .pre .1 .is) (sym (c .before .accepts .ensures) ∙ c .if1 .left)
+
+pub probe-spec : {M : Type 1} → statement M
+probe-spec =
+    tie.close
+    (tie.spec
+    sub-fattest
+    cast-fattest
+    fattest-requires
+    cast-f
+    handle-count-requires
+    prefix-item-requires
+    look-up-requires
+    cast-m
+    accepts-requires
+    len-at-requires
+    returns
+    returns-2)

@@ -1,0 +1,141 @@
+-- `neighbour::walk::walk_splits` meets its contract: one law for each case of the walk. Assumes nothing.
+use mathlib.Core.Path.{_≡_, sym, _∙_}
+use mathlib.Core.Bool.{true, false}
+use Prim.Native.Nat.{_≤_, _<_}
+use native.Mathlib.Omega.{arith}
+use lib.ListN.{length}
+use Rattle.tables.specs.Delimiters.{delimiters}
+use Rattle.splits.specs.Splits.{len}
+use Rattle.neighbour.specs.Walk.{onPath}
+use Rattle.neighbour.specs.Ask.{NeighbourSaid, refused, saidByNeighbour, walkSays}
+use Rattle.neighbour.proofs.Telling.{says-bad, says-low, says-high, says-walk}
+use borrow.Author.Needs.{needs}
+use Rattle.neighbour.proofs.walk.walk_splits.Statement.{statement}
+use Rattle.neighbour.proofs.walk.walk_splits.Tie as tie
+use Rattle.neighbour.proofs.walk.walk_splits.Reads as reads
+use Rattle.neighbour.proofs.walk.walk_splits.Lts as lts
+use Rattle.neighbour.proofs.walk.decide.Reads as decide-reads
+use Rattle.neighbour.proofs.walk.descend.Reads as descend-reads
+use Rattle.neighbour.proofs.walk.on_path.Reads as on-path-reads
+use Rattle.neighbour.proofs.walk.tell.Reads as tell-reads
+use Rattle.splits.proofs.split.entry_at.Reads as entry-at-reads
+use Rattle.splits.proofs.split.len_at.Reads as len-at-reads
+use Rattle.tables.proofs.delimiter.delimiter_at.Reads as delimiter-at-reads
+
+entry-at-requires : tie.Need-entry-at-requires
+entry-at-requires c κs = search needs
+
+two : (c : tie.After-entry-at) → let a = c .before .before .before .before .before .args in 2 ≤ length (delimiters (a .b) (a .keys .now))
+two c = omega arith
+
+-- the root split is one
+rooted : (c : tie.Else3) → let a = c .before .before .before .before .before .before .before .before .before .args in
+    let T = delimiters (a .b) (a .keys .now) in
+    let r = c .before .before .before .before .entry-at .result in
+    (0 < r) × (r < length T) × (len T r ≤ 63)
+rooted c = (omega arith, omega arith, omega arith)
+
+-- the root split is none, or too long
+bad : (c : tie.After-entry-at) → let a = c .before .before .before .before .before .args in
+    let T = delimiters (a .b) (a .keys .now) in
+    let r = c .entry-at .result in
+    ((0 < r) × (r < length T) × (len T r ≤ 63) → ⊥) → refused 6 0 ≡ walkSays T (a .handles .now) (a .left .now) (a .right .now) (a .seed3) (a .x)
+bad c fails =
+    let a = c .before .before .before .before .before .args in
+    let T = delimiters (a .b) (a .keys .now) in
+    says-bad T (a .handles .now) (a .left .now) (a .right .now) (a .seed3) (a .x) (two c) (c .entry-at .result) (c .entry-at .ensures) fails
+
+returns : tie.Need-returns
+unfolding saidByNeighbour
+returns c = bad (c .before) (λ k. omega arith)
+
+returns-2 : tie.Need-returns-2
+unfolding saidByNeighbour
+returns-2 c = bad (c .before .before) (λ k. omega arith)
+
+len-at-requires : tie.Need-len-at-requires
+len-at-requires c κs = search needs
+
+returns-3 : tie.Need-returns-3
+unfolding saidByNeighbour
+returns-3 c = bad (c .before .before .before .before) (λ k. omega arith)
+
+on-path-requires : tie.Need-on-path-requires
+on-path-requires c κs = search needs
+
+descend-requires : tie.Need-descend-requires
+descend-requires c κs = search needs
+
+entry-at-requires-2 : tie.Need-entry-at-requires-2
+entry-at-requires-2 c κs = search needs
+
+entry-at-requires-3 : tie.Need-entry-at-requires-3
+entry-at-requires-3 c κs = search needs
+
+decide-requires : tie.Need-decide-requires
+decide-requires c κs = search needs
+
+returns-4 : tie.Need-returns-4
+returns-4 c =
+    let p = c .before .before .before .before .before .before .before .before .before .before in
+    let a = p .before .before .before .before .before .args in
+    let T = delimiters (a .b) (a .keys .now) in
+    let on = sym (c .before .before .before .before .before .on-path .ensures) ∙ c .before .before .before .before .if4 .taken in
+    let d = c .before .before .before .descend in
+    let first = c .before .before .entry-at2 in
+    let end = c .before .entry-at3 in
+    c .decide .ensures
+    ∙ says-walk T (a .handles .now) (a .left .now) (a .right .now) (a .seed3) (a .x) (two p) (p .entry-at .result) (p .entry-at .ensures)
+    (rooted (c .before .before .before .before .before .before)) on (d .result .node) (d .result .probes) (first .result) (end .result) (d .ensures .node-is) (d .ensures .probes-is)
+    (first .ensures) (end .ensures)
+
+delimiter-at-requires : tie.Need-delimiter-at-requires
+delimiter-at-requires c κs = search needs
+
+tell-requires : tie.Need-tell-requires
+tell-requires c κs = search needs
+
+returns-5 : tie.Need-returns-5
+returns-5 c =
+    let p = c .before .before .before .before .before .before .before .before .before in
+    let a = p .before .before .before .before .before .args in
+    let T = delimiters (a .b) (a .keys .now) in
+    let off = sym (c .before .before .before .before .on-path .ensures) ∙ c .before .before .before .if4 .left in
+    c .tell .ensures
+    ∙ says-low T (a .handles .now) (a .left .now) (a .right .now) (a .seed3) (a .x) (two p) (p .entry-at .result) (p .entry-at .ensures)
+    (rooted (c .before .before .before .before .before)) off (omega arith)
+
+tell-requires-2 : tie.Need-tell-requires-2
+tell-requires-2 c κs = search needs
+
+returns-6 : tie.Need-returns-6
+returns-6 c =
+    let p = c .before .before .before .before .before .before .before .before .before in
+    let s = p .before .before .before .before .before in
+    let a = s .args in
+    let T = delimiters (a .b) (a .keys .now) in
+    let off = sym (c .before .before .before .before .on-path .ensures) ∙ c .before .before .before .if4 .left in
+    c .tell2 .ensures
+    ∙ says-high T (a .handles .now) (a .left .now) (a .right .now) (a .seed3) (a .x) (two p) (p .entry-at .result) (p .entry-at .ensures)
+    (rooted (c .before .before .before .before .before)) off (omega arith) (a .n) (s .pre .0 .counted .rows)
+
+pub walk-splits-spec : {M : Type 1} → statement M
+walk-splits-spec =
+    tie.close
+    (tie.spec
+    entry-at-requires
+    returns
+    returns-2
+    len-at-requires
+    returns-3
+    on-path-requires
+    descend-requires
+    entry-at-requires-2
+    entry-at-requires-3
+    decide-requires
+    returns-4
+    delimiter-at-requires
+    tell-requires
+    returns-5
+    tell-requires-2
+    returns-6)
