@@ -43,25 +43,31 @@ module _ (T : List ℕ) (x : ℕ) (find lefts rights : ℕ → ℕ) where
   abbrev pub Rooted : ℕ → Type 0
   Rooted r = (0 < r) × (r < length T) × (len T r ≤ 63)
 
-  pub walk-off : 2 ≤ length T → (r : ℕ) → lefts 0 ≡ r → Rooted r → onPath T x r ≡ false → walk T x find lefts rights ≡ halt r (before (cond (leb x (keyAt T r)) 0 (length T)))
-  unfolding walk
-  walk-off h r e R off =
-      rw (ne-eqb (length T) 0 (λ z. omega arith), ne-eqb (length T) 1 (λ z. omega arith), e, le-leb 1 r (R .0), lt-ltb r (length T) (R .1), le-leb (len T r) 63 (R .2), off)
+  root-test : (r : ℕ) → Rooted r → leb 1 r && (ltb r (length T) && leb (len T r) 63) ≡ true
+  root-test r R = rw (le-leb 1 r (R .0), lt-ltb r (length T) (R .1), le-leb (len T r) 63 (R .2))
 
-  pub walk-on : 2 ≤ length T → (r : ℕ) → lefts 0 ≡ r → Rooted r → onPath T x r ≡ true
-      → walk T x find lefts rights ≡ ended T x lefts rights (descend T x find 64 r 64)
-  unfolding walk
-  walk-on h r e R on =
-      rw (ne-eqb (length T) 0 (λ z. omega arith), ne-eqb (length T) 1 (λ z. omega arith), e, le-leb 1 r (R .0), lt-ltb r (length T) (R .1), le-leb (len T r) 63 (R .2), on)
+  -- two keys or more
+  module _ (h : 2 ≤ length T) (r : ℕ) (e : lefts 0 ≡ r) where
+    walk-two : walk T x find lefts rights
+        ≡ cond (leb 1 r && (ltb r (length T) && leb (len T r) 63))
+        (cond (onPath T x r) (ended T x lefts rights (descend T x find 64 r 64)) (halt r (before (cond (leb x (keyAt T r)) 0 (length T)))))
+        (halt r spoiled)
+    unfolding walk
+    walk-two = rw (ne-eqb (length T) 0 (λ z. omega arith), ne-eqb (length T) 1 (λ z. omega arith), e)
 
-  pub walk-bad : 2 ≤ length T → (r : ℕ) → lefts 0 ≡ r → (Rooted r → ⊥) → walk T x find lefts rights ≡ halt r spoiled
-  unfolding walk
-  walk-bad h r e fails =
-      rw (ne-eqb (length T) 0 (λ z. omega arith), ne-eqb (length T) 1 (λ z. omega arith), e)
-      (by-test (leb 1 r && (ltb r (length T) && leb (len T r) 63))
-      (λ k. let p = both (leb 1 r) _ k in let q = both (ltb r (length T)) (leb (len T r) 63) (p .1) in
-      absurd (fails (leb-true 1 r (p .0), ltb-true r (length T) (q .0), leb-true (len T r) 63 (q .1))))
-      (λ k. rw k))
+    pub walk-off : Rooted r → onPath T x r ≡ false → walk T x find lefts rights ≡ halt r (before (cond (leb x (keyAt T r)) 0 (length T)))
+    walk-off R off = walk-two ∙ (rw (root-test r R, off))
+
+    pub walk-on : Rooted r → onPath T x r ≡ true → walk T x find lefts rights ≡ ended T x lefts rights (descend T x find 64 r 64)
+    walk-on R on = walk-two ∙ (rw (root-test r R, on))
+
+    pub walk-bad : (Rooted r → ⊥) → walk T x find lefts rights ≡ halt r spoiled
+    walk-bad fails =
+        walk-two
+        ∙ by-test (leb 1 r && (ltb r (length T) && leb (len T r) 63))
+        (λ k. let p = both (leb 1 r) _ k in let q = both (ltb r (length T)) (leb (len T r) 63) (p .1) in
+        absurd (fails (leb-true 1 r (p .0), ltb-true r (length T) (q .0), leb-true (len T r) 63 (q .1))))
+        (λ k. rw k)
 
   -- a walk makes no probes, or those from its root on
   few-probes : (k : ℕ) → (len T (lefts 0) ≤ 63 → length (descend T x find 64 (lefts 0) 64 .probed) ≤ k) → length (walk T x find lefts rights .probed) ≤ k
@@ -87,7 +93,7 @@ module _ (T : List ℕ) (x : ℕ) (find lefts rights : ℕ → ℕ) where
   walk-six = few-probes 6 (λ h. le-trans (bound h .0) (bound h .1))
 
 -- a table has no rows, one, or more
-by-size : {A : Type 0} (n : ℕ) → (n ≡ 0 → A) → (n ≡ 1 → A) → (2 ≤ n → A) → A
+pub by-size : {A : Type 0} (n : ℕ) → (n ≡ 0 → A) → (n ≡ 1 → A) → (2 ≤ n → A) → A
 by-size zero p q r = p refl
 by-size (suc zero) p q r = q refl
 by-size (suc (suc n)) p q r = r (omega arith)
@@ -133,7 +139,9 @@ module _ (T : List ℕ) (t : Table T) (x : ℕ) where
       let c = smaller T x in
       by-test (leb x (keyAt T 0))
       (λ k. rw k (let no : ¬ (0 < c) = λ g. (omega (arith, smaller-low T t x 0 g, leb-true x (keyAt T 0) k)) in omega arith))
-      (λ k. rw k (let no : ¬ (c ≤ 0) = λ g. (omega (arith, smaller-high T t x 0 g (omega arith), leb-false x (keyAt T 0) k)) in omega (arith, smaller-most T t x)))
+      (λ k. rw k (
+      let no : ¬ (c ≤ 0) = λ g. (omega (arith, smaller-high T t x 0 g (omega arith), leb-false x (keyAt T 0) k)) in
+      omega (arith, smaller-most T t x)))
 
   -- W4: the walk over the table counts the smaller keys, and refuses nothing
   pub path-answer : pathWalk T x .answer ≡ before (smaller T x)

@@ -13,7 +13,8 @@ use Rattle.words.specs.Keys.{firstBits, bitAt}
 use Rattle.tables.specs.Tables.{keyAt, Table, smaller}
 use Rattle.splits.specs.Splits.{len, left, right}
 use Rattle.splits.proofs.Bools.{by-test}
-use Rattle.splits.proofs.Rows.{next-bit, less-by, smaller-edge, len-lt, len-iff, neighbours, rows-below, rows-above, left-lt, right-gt, right-le, low-side, high-side}
+use Rattle.splits.proofs.Rows.{next-bit, less-by, smaller-edge, len-lt, len-iff, neighbours, rows-below, rows-above, low-side, high-side}
+use Rattle.splits.proofs.Rows.{left-lt, right-gt, right-le}
 use Rattle.neighbour.specs.Walk.{before, decide}
 use Rattle.neighbour.proofs.Paths.{OnPath}
 use Rattle.neighbour.proofs.Descending.{Deepest}
@@ -83,14 +84,16 @@ module _ (T : List ℕ) (t : Table T) (x : ℕ) where
     bit-zero : bitAt (len T m) x ≡ 0 → c ≤ m
     bit-zero e =
         let lt = len-lt T t m pos small in
-        let less = less-by (suc (len T m)) x (keyAt T m) (omega (arith, next-bit (len T m) x lt, D .path .same, high-side T t m pos small m (le-refl m) (right-gt T t m pos small))) in
+        let side = high-side T t m pos small m (le-refl m) (right-gt T t m pos small) in
+        let less = less-by (suc (len T m)) x (keyAt T m) (omega (arith, next-bit (len T m) x lt, D .path .same)) in
         let no : ¬ (m < c) = λ g. (omega (arith, smaller-low m g)) in
         omega arith
 
     bit-one : ¬ (bitAt (len T m) x ≡ 0) → m ≤ c
     bit-one e =
         let lt = len-lt T t m pos small in
-        let less = less-by (suc (len T m)) (keyAt T (m - 1)) x (omega (arith, next-bit (len T m) x lt, D .path .same, low-side T t m pos small (m - 1) (omega (arith, left-lt T t m pos small)) (omega (arith, pos)))) in
+        let side = low-side T t m pos small (m - 1) (omega (arith, left-lt T t m pos small)) (omega (arith, pos)) in
+        let less = less-by (suc (len T m)) (keyAt T (m - 1)) x (omega (arith, next-bit (len T m) x lt, D .path .same)) in
         let no : ¬ (c < m) = λ g. (omega (arith, smaller-high (m - 1) (omega arith) (omega (arith, small)))) in
         omega arith
 

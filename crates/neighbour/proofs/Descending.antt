@@ -11,12 +11,11 @@ use lib.Dec.{leb, ltb}
 use lib.ListN.{length}
 use Rattle.words.specs.Keys.{prefixItem}
 use Rattle.words.specs.Fat.{Fattest, Probes, done, below, onward}
-use Rattle.words.proofs.Fatness.{fattest-of}
 use Rattle.tables.specs.Tables.{Table}
 use Rattle.splits.specs.Splits.{len, root, handleItem}
 use Rattle.splits.proofs.Bools.{both, not-both, by-test}
 use Rattle.neighbour.specs.Walk.{onPath, probeAt, accepted, Descent, descend, pathTo}
-use Rattle.neighbour.proofs.Paths.{OnPath, Least, path-to, handle-at}
+use Rattle.neighbour.proofs.Paths.{probe-fattest, OnPath, Least, path-to, handle-at}
 
 -- what acceptance says
 pub record Taken (T : List ℕ) (x f upper m : ℕ) : Type 0 where
@@ -75,10 +74,6 @@ pub descend-rejects : (T : List ℕ) (x : ℕ) (find : ℕ → ℕ) (turns node 
     descend T x find (suc turns) node upper ≡ record { probed = f ∷ rest .probed; node = rest .node }
 unfolding turn
 descend-rejects T x find turns node upper f m h e e′ ok = descend-goes T x find turns node upper h ∙ rw (← e, ← e′, ok)
-
--- the probe is the 2-fattest number strictly between
-pub probe-fattest : (T : List ℕ) (node upper : ℕ) → suc (len T node) < upper → upper ≤ 64 → Fattest (len T node) (upper - 1) (probeAt T node upper)
-probe-fattest T node upper h l = fattest-of (len T node) (upper - 1) (omega arith) (omega arith)
 
 -- W5: over any stores the probes are those of a fat binary search
 pub descend-probes : (T : List ℕ) (x : ℕ) (find : ℕ → ℕ) (turns node upper : ℕ) → upper ≤ 64

@@ -20,6 +20,10 @@ use Rattle.splits.proofs.Rows.{share-down, between, len-lt, len-iff, neighbours
 use Rattle.splits.proofs.Parents.{root-least, parent-left, parent-right, parent-lt}
 use Rattle.neighbour.specs.Walk.{onPath, probeAt, pathTo}
 
+-- the probe is the 2-fattest number strictly between
+pub probe-fattest : (T : List ℕ) (node upper : ℕ) → suc (len T node) < upper → upper ≤ 64 → Fattest (len T node) (upper - 1) (probeAt T node upper)
+probe-fattest T node upper h l = fattest-of (len T node) (upper - 1) (omega arith) (omega arith)
+
 -- m is a split on x's path
 pub record OnPath (T : List ℕ) (x m : ℕ) : Type 0 where
   pub pos : 0 < m
@@ -181,7 +185,7 @@ module _ (T : List ℕ) (t : Table T) (x : ℕ) where
         let lo = len T node in
         let f = probeAt T node upper in
         let q = parentLen T v in
-        let F : Fattest lo (upper - 1) f = fattest-of lo (upper - 1) (omega arith) (omega arith) in
+        let F : Fattest lo (upper - 1) f = probe-fattest T node upper room top in
         let lo-f : lo < f = F .above in
         let lo-q : lo ≤ q = parent-most v node P N (omega arith) in
         let q-f : q < f = parent-lt T v f (omega arith)

@@ -1,12 +1,12 @@
 -- The root's string is what all keys of a table share, so the bound on probes can be read off the keys. Assumes nothing.
 use mathlib.Core.Path.{_≡_, refl, sym, _∙_}
 use mathlib.Core.List.{List, [], _∷_}
-use Prim.Native.Nat.{ℕ, zero, suc, _-_, _^_, _≤_, _<_, min}
-use native.Mathlib.Nat.{le-refl, le-of-lt, le-of-suc-le-suc}
+use Prim.Native.Nat.{ℕ, zero, suc, _-_, _≤_, _<_}
+use native.Mathlib.Nat.{le-of-lt, le-of-suc-le-suc}
 use native.Mathlib.Omega.{arith}
 use lib.ListN.{length}
 use Rattle.words.specs.Keys.{firstBits, sharedBits}
-use Rattle.words.proofs.Sharing.{shared-iff, shared-le}
+use Rattle.words.proofs.Sharing.{shared-iff}
 use Rattle.tables.specs.Tables.{keyAt, Table, sharedWith, sharedByAll}
 use Rattle.splits.specs.Splits.{len, root}
 use Rattle.splits.proofs.Rows.{len-lt, len-iff}
@@ -25,14 +25,16 @@ with-all L x [] top each = top
 with-all L x (k ∷ ks) top each = omega (arith, each 0 (omega arith), with-all L x ks top (λ i h. each (suc i) (omega arith)))
 
 -- all keys of a table share L bits exactly if each row has the first L bits of row 0
-by-all : (L : ℕ) (T : List ℕ) → Table T → 0 < length T → L ≤ 64 → L ≤ sharedByAll T → (i : ℕ) → i < length T → firstBits L (keyAt T 0) ≡ firstBits L (keyAt T i)
+by-all : (L : ℕ) (T : List ℕ) → Table T → 0 < length T → L ≤ 64 → L ≤ sharedByAll T
+    → (i : ℕ) → i < length T → firstBits L (keyAt T 0) ≡ firstBits L (keyAt T i)
 unfolding sharedByAll
 by-all L [] t some top h i l = absurd (omega arith)
 by-all L (k ∷ ks) t some top h zero l = refl
 by-all L (k ∷ ks) t some top h (suc i) l =
     shared-iff k (keyAt ks i) (t .fits 0 (omega arith)) (t .fits (suc i) l) L top .0 (with-each L k ks h i (le-of-suc-le-suc l))
 
-all-by : (L : ℕ) (T : List ℕ) → Table T → 0 < length T → L ≤ 64 → ((i : ℕ) → i < length T → firstBits L (keyAt T 0) ≡ firstBits L (keyAt T i)) → L ≤ sharedByAll T
+all-by : (L : ℕ) (T : List ℕ) → Table T → 0 < length T → L ≤ 64
+    → ((i : ℕ) → i < length T → firstBits L (keyAt T 0) ≡ firstBits L (keyAt T i)) → L ≤ sharedByAll T
 unfolding sharedByAll
 all-by L [] t some top each = absurd (omega arith)
 all-by L (k ∷ ks) t some top each =

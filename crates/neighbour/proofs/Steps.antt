@@ -1,7 +1,7 @@
 -- One probe after another: what the tests of the code decide, and what is left of a walk from its root after so many probes.
 -- Assumes nothing.
 use mathlib.Core.Path.{_≡_, refl, sym, _∙_}
-use mathlib.Core.Bool.{true, false, cond, _&&_}
+use mathlib.Core.Bool.{true, false, _&&_}
 use mathlib.Core.List.{List, _∷_}
 use Prim.Native.Nat.{ℕ, zero, suc, _+_, _-_, _^_, _≤_, _<_}
 use native.Mathlib.Omega.{arith}
@@ -16,7 +16,8 @@ use Rattle.splits.proofs.Bools.{both, by-test}
 use Rattle.neighbour.specs.Walk.{onPath, probeAt, accepted, descend, before, spoiled, decide}
 use Rattle.neighbour.specs.Inner.{Stepped}
 use Rattle.neighbour.specs.declared.walk.State.{State}
-use Rattle.neighbour.proofs.Descending.{Taken, accepted-means, turn, descend-goes, descend-stops, probe-fattest}
+use Rattle.neighbour.proofs.Paths.{probe-fattest}
+use Rattle.neighbour.proofs.Descending.{Taken, accepted-means, turn, descend-goes, descend-stops}
 
 -- keys have the same first l bits exactly if they share as many
 pub share-test : (x k l : ℕ) → x < 2 ^ 64 → k < 2 ^ 64 → l ≤ 64 → leb l (sharedBits x k) ≡ eqb (firstBits l x) (firstBits l k)
@@ -24,7 +25,7 @@ share-test x k l hx hk h =
     let law = shared-iff x k hx hk l h in
     by-test (leb l (sharedBits x k))
     (λ e. e ∙ sym (eq-eqb _ _ (law .0 (leb-true l (sharedBits x k) e))))
-    (λ e. e ∙ sym (ne-eqb _ _ (λ z. omega (arith, law .1 z, leb-false l (sharedBits x k) e))))
+    (λ e. e ∙ sym (ne-eqb (firstBits l x) (firstBits l k) (λ z. omega (arith, law .1 z, leb-false l (sharedBits x k) e))))
 
 -- what is not accepted, and the last test of what may be
 pub not-accepted : (T : List ℕ) (x f upper m : ℕ) → (Taken T x f upper m → ⊥) → false ≡ accepted T x f upper m

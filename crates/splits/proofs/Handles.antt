@@ -71,7 +71,8 @@ module _ (T : List ℕ) (t : Table T) where
       let fk : f ≤ len T k = omega arith in
       let bits : firstBits f (keyAt T k) ≡ firstBits f (keyAt T m) = sym (r .1) in
       let bits′ : firstBits g (keyAt T m) ≡ firstBits g (keyAt T k) = rw (← same) (r .1) in
-      let near : firstBits f (keyAt T (k - 1)) ≡ firstBits f (keyAt T k) = share-down f (len T k) (keyAt T (k - 1)) (keyAt T k) fk (le-of-lt kt) (neighbours T t k kp ks) in
+      let near : firstBits f (keyAt T (k - 1)) ≡ firstBits f (keyAt T k) =
+      share-down f (len T k) (keyAt T (k - 1)) (keyAt T k) fk (le-of-lt kt) (neighbours T t k kp ks) in
       let near′ : firstBits g (keyAt T (m - 1)) ≡ firstBits g (keyAt T m) =
       share-down g (len T m) (keyAt T (m - 1)) (keyAt T m) (omega arith) (le-of-lt mt) (neighbours T t m mp ms) in
       let k₁ = handle-rows m mp ms mo k ks bits in

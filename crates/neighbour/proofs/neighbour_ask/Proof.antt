@@ -10,11 +10,6 @@ use Rattle.neighbour.specs.Ask.{saidByNeighbour, handleCount, neighbourS
 use borrow.Author.Needs.{needs}
 use Rattle.neighbour.proofs.neighbour_ask.Statement.{statement}
 use Rattle.neighbour.proofs.neighbour_ask.Tie as tie
-use Rattle.neighbour.proofs.neighbour_ask.Reads as reads
-use Rattle.neighbour.proofs.neighbour_ask.Lts as lts
-use Rattle.cells.proofs.cell_count.Reads as cell-count-reads
-use Rattle.neighbour.proofs.walk.handle_count.Reads as handle-count-reads
-use Rattle.neighbour.proofs.walk.walk_from.Reads as walk-from-reads
 
 returns : tie.Need-returns
 unfolding saidByNeighbour neighbourSays

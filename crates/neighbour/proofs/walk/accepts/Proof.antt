@@ -6,10 +6,6 @@ use Rattle.neighbour.proofs.Steps.{not-accepted, last-test}
 use borrow.Author.Needs.{needs}
 use Rattle.neighbour.proofs.walk.accepts.Statement.{statement}
 use Rattle.neighbour.proofs.walk.accepts.Tie as tie
-use Rattle.neighbour.proofs.walk.accepts.Reads as reads
-use Rattle.neighbour.proofs.walk.accepts.Lts as lts
-use Rattle.neighbour.proofs.walk.on_path.Reads as on-path-reads
-use Rattle.splits.proofs.split.len_at.Reads as len-at-reads
 
 returns : tie.Need-returns
 returns c =

@@ -7,11 +7,6 @@ use Rattle.neighbour.proofs.Steps.{decide-spoiled, decide-first, decide
 use borrow.Author.Needs.{needs}
 use Rattle.neighbour.proofs.walk.decide.Statement.{statement}
 use Rattle.neighbour.proofs.walk.decide.Tie as tie
-use Rattle.neighbour.proofs.walk.decide.Reads as reads
-use Rattle.neighbour.proofs.walk.decide.Lts as lts
-use Rattle.neighbour.proofs.walk.tell.Reads as tell-reads
-use Rattle.splits.proofs.split.len_at.Reads as len-at-reads
-use Rattle.tables.proofs.delimiter.delimiter_at.Reads as delimiter-at-reads
 
 returns : tie.Need-returns
 unfolding saidByNeighbour told
@@ -56,7 +51,8 @@ returns-4 c =
     let T = delimiters (a .b) (a .keys .now) in
     c .tell .ensures
     ∙ ap (told T (a .x) (a .probes))
-    (sym (decide-first T (a .x) (a .first) (a .m) (a .end) (omega arith) (omega arith) (omega arith) (rw (p .len-at .ensures) at (c .before .before .before .if4 .taken)) (omega arith)))
+    (sym (decide-first T (a .x) (a .first) (a .m) (a .end) (omega arith) (omega arith) (omega arith)
+    (rw (p .len-at .ensures) at (c .before .before .before .if4 .taken)) (omega arith)))
 
 tell-requires-2 : tie.Need-tell-requires-2
 tell-requires-2 c κs = search needs
@@ -68,7 +64,8 @@ returns-5 c =
     let T = delimiters (a .b) (a .keys .now) in
     c .tell2 .ensures
     ∙ ap (told T (a .x) (a .probes))
-    (sym (decide-low T (a .x) (a .first) (a .m) (a .end) (omega arith) (omega arith) (omega arith) (rw (p .len-at .ensures) at (c .before .before .before .if4 .taken)) (omega arith)))
+    (sym (decide-low T (a .x) (a .first) (a .m) (a .end) (omega arith) (omega arith) (omega arith)
+    (rw (p .len-at .ensures) at (c .before .before .before .if4 .taken)) (omega arith)))
 
 delimiter-at-requires-2 : tie.Need-delimiter-at-requires-2
 delimiter-at-requires-2 c κs = search needs
@@ -83,7 +80,8 @@ returns-6 c =
     let T = delimiters (a .b) (a .keys .now) in
     c .tell3 .ensures
     ∙ ap (told T (a .x) (a .probes))
-    (sym (decide-high T (a .x) (a .first) (a .m) (a .end) (omega arith) (omega arith) (omega arith) (rw (p .len-at .ensures) at (c .before .before .before .if4 .left)) (omega arith)))
+    (sym (decide-high T (a .x) (a .first) (a .m) (a .end) (omega arith) (omega arith) (omega arith)
+    (rw (p .len-at .ensures) at (c .before .before .before .if4 .left)) (omega arith)))
 
 tell-requires-4 : tie.Need-tell-requires-4
 tell-requires-4 c κs = search needs
@@ -95,7 +93,8 @@ returns-7 c =
     let T = delimiters (a .b) (a .keys .now) in
     c .tell4 .ensures
     ∙ ap (told T (a .x) (a .probes))
-    (sym (decide-end T (a .x) (a .first) (a .m) (a .end) (omega arith) (omega arith) (omega arith) (rw (p .len-at .ensures) at (c .before .before .before .if4 .left)) (omega arith)))
+    (sym (decide-end T (a .x) (a .first) (a .m) (a .end) (omega arith) (omega arith) (omega arith)
+    (rw (p .len-at .ensures) at (c .before .before .before .if4 .left)) (omega arith)))
 
 pub decide-spec : {M : Type 1} → statement M
 decide-spec =

@@ -7,9 +7,6 @@ use Rattle.neighbour.specs.Inner.{handleValue}
 use Rattle.neighbour.proofs.Steps.{Going, going-start, going-next, going-end}
 use Rattle.neighbour.proofs.walk.descend.Statement.{statement}
 use Rattle.neighbour.proofs.walk.descend.Tie as tie
-use Rattle.neighbour.proofs.walk.descend.Reads as reads
-use Rattle.neighbour.proofs.walk.descend.Lts as lts
-use Rattle.neighbour.proofs.walk.probe.Reads as probe-reads
 
 abbrev Inv-loop : tie.InvT-loop
 Inv-loop keys b n seed3 handles x root l node₀ lower₀ upper₀ probes₀ node lower upper probes =
@@ -35,7 +32,7 @@ probe-requires c κs =
     let i = c .before .loop .inv in (
       s .pre .0,
       record { split = record { bucketed = s .pre .1 .split .bucketed; pos = i .pos; small = i .small }; is = i .is; short = i .short },
-      c .loop-test .taken,
+      omega arith,
       i .top,
     )
 

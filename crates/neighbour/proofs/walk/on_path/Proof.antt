@@ -8,10 +8,6 @@ use Rattle.neighbour.proofs.Steps.{share-test}
 use borrow.Author.Needs.{needs}
 use Rattle.neighbour.proofs.walk.on_path.Statement.{statement}
 use Rattle.neighbour.proofs.walk.on_path.Tie as tie
-use Rattle.neighbour.proofs.walk.on_path.Reads as reads
-use Rattle.neighbour.proofs.walk.on_path.Lts as lts
-use Rattle.tables.proofs.delimiter.delimiter_at.Reads as delimiter-at-reads
-use Rattle.words.proofs.prefix.shared_bits.Reads as shared-bits-reads
 
 delimiter-at-requires : tie.Need-delimiter-at-requires
 delimiter-at-requires c κs = search needs

@@ -1,26 +1,17 @@
 -- `neighbour::walk::probe` meets its contract. Assumes nothing.
 use mathlib.Core.Path.{_≡_, sym, _∙_}
-use mathlib.Core.Bool.{true}
-use Prim.Native.Nat.{ℕ, _-_, _≤_, _<_}
+use Prim.Native.Nat.{_-_}
 use native.Mathlib.Omega.{arith}
 use Rattle.words.proofs.Fatness.{fattest-one, fattest-of}
 use Rattle.tables.specs.Delimiters.{delimiters}
 use Rattle.splits.specs.Splits.{len}
-use Rattle.neighbour.specs.Walk.{probeAt, accepted}
+use Rattle.neighbour.specs.Walk.{probeAt}
 use Rattle.neighbour.specs.Inner.{handleValue}
 use Rattle.neighbour.proofs.Descending.{accepted-means}
 use Rattle.neighbour.proofs.Steps.{stepped-to, stepped-under}
 use borrow.Author.Needs.{needs}
 use Rattle.neighbour.proofs.walk.probe.Statement.{statement}
 use Rattle.neighbour.proofs.walk.probe.Tie as tie
-use Rattle.neighbour.proofs.walk.probe.Reads as reads
-use Rattle.neighbour.proofs.walk.probe.Lts as lts
-use Rattle.cells.proofs.look_up.Reads as look-up-reads
-use Rattle.neighbour.proofs.walk.accepts.Reads as accepts-reads
-use Rattle.neighbour.proofs.walk.handle_count.Reads as handle-count-reads
-use Rattle.splits.proofs.split.len_at.Reads as len-at-reads
-use Rattle.words.proofs.fattest.fattest.Reads as fattest-reads
-use Rattle.words.proofs.prefix.prefix_item.Reads as prefix-item-reads
 
 sub-fattest : tie.Need-sub-fattest
 sub-fattest c = search needs
@@ -76,8 +67,9 @@ returns c =
     let p = c .before .before .before in
     let a = p .before .before .before .before .before .before .args in
     let T = delimiters (a .b) (a .keys .now) in
-    stepped-to T (a .x) (handleValue (a .b) (a .keys .now) (a .handles .now) (a .seed3) (a .x)) (a .node) (a .upper) (p .before .before .before .fattest .result)
-    (p .look-up .result) (at p) (found p) (c .len-at .result) (c .len-at .ensures) (sym (c .before .before .accepts .ensures) ∙ c .before .if1 .taken)
+    let ok = sym (c .before .before .accepts .ensures) ∙ c .before .if1 .taken in
+    stepped-to T (a .x) (handleValue (a .b) (a .keys .now) (a .handles .now) (a .seed3) (a .x)) (a .node) (a .upper)
+    (p .before .before .before .fattest .result) (p .look-up .result) (at p) (found p) (c .len-at .result) (c .len-at .ensures) ok
 
 returns-2 : tie.Need-returns-2
 returns-2 c =
@@ -85,8 +77,9 @@ returns-2 c =
     let s = p .before .before .before .before .before .before in
     let a = s .args in
     let T = delimiters (a .b) (a .keys .now) in
-    stepped-under T (a .x) (handleValue (a .b) (a .keys .now) (a .handles .now) (a .seed3) (a .x)) (a .node) (a .upper) (p .before .before .before .fattest .result)
-    (p .look-up .result) (at p) (found p) (a .lower) (s .pre .1 .is) (sym (c .before .accepts .ensures) ∙ c .if1 .left)
+    let fails = sym (c .before .accepts .ensures) ∙ c .if1 .left in
+    stepped-under T (a .x) (handleValue (a .b) (a .keys .now) (a .handles .now) (a .seed3) (a .x)) (a .node) (a .upper)
+    (p .before .before .before .fattest .result) (p .look-up .result) (at p) (found p) (a .lower) (s .pre .1 .is) fails
 
 pub probe-spec : {M : Type 1} → statement M
 probe-spec =

@@ -7,9 +7,6 @@ use Rattle.neighbour.specs.Ask.{saidByNeighbour, told}
 use borrow.Author.Needs.{needs}
 use Rattle.neighbour.proofs.walk.tell.Statement.{statement}
 use Rattle.neighbour.proofs.walk.tell.Tie as tie
-use Rattle.neighbour.proofs.walk.tell.Reads as reads
-use Rattle.neighbour.proofs.walk.tell.Lts as lts
-use Rattle.tables.proofs.delimiter.delimiter_at.Reads as delimiter-at-reads
 
 delimiter-at-requires : tie.Need-delimiter-at-requires
 delimiter-at-requires c κs = search needs

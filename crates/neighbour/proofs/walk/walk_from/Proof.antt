@@ -6,12 +6,6 @@ use Rattle.neighbour.proofs.Telling.{says-none, says-one-low, says-one-
 use borrow.Author.Needs.{needs}
 use Rattle.neighbour.proofs.walk.walk_from.Statement.{statement}
 use Rattle.neighbour.proofs.walk.walk_from.Tie as tie
-use Rattle.neighbour.proofs.walk.walk_from.Reads as reads
-use Rattle.neighbour.proofs.walk.walk_from.Lts as lts
-use Rattle.neighbour.proofs.walk.tell.Reads as tell-reads
-use Rattle.neighbour.proofs.walk.walk_splits.Reads as walk-splits-reads
-use Rattle.tables.proofs.delimiter.delimiter_at.Reads as delimiter-at-reads
-use Rattle.tables.proofs.delimiter.delimiter_count.Reads as delimiter-count-reads
 
 delimiter-count-requires : tie.Need-delimiter-count-requires
 delimiter-count-requires c κs = search needs
@@ -33,7 +27,8 @@ tell-requires-2 c κs = search needs
 returns-2 : tie.Need-returns-2
 returns-2 c =
     let a = c .before .before .before .before .before .before .before .before .before .before .args in
-    c .tell2 .ensures ∙ says-one-low (delimiters (a .b) (a .keys .now)) (a .handles .now) (a .left .now) (a .right .now) (a .seed3) (a .x) (omega arith) (omega arith)
+    c .tell2 .ensures
+    ∙ says-one-low (delimiters (a .b) (a .keys .now)) (a .handles .now) (a .left .now) (a .right .now) (a .seed3) (a .x) (omega arith) (omega arith)
 
 tell-requires-3 : tie.Need-tell-requires-3
 tell-requires-3 c κs = search needs
@@ -41,7 +36,8 @@ tell-requires-3 c κs = search needs
 returns-3 : tie.Need-returns-3
 returns-3 c =
     let a = c .before .before .before .before .before .before .before .before .before .before .args in
-    c .tell3 .ensures ∙ says-one-high (delimiters (a .b) (a .keys .now)) (a .handles .now) (a .left .now) (a .right .now) (a .seed3) (a .x) (omega arith) (omega arith)
+    c .tell3 .ensures
+    ∙ says-one-high (delimiters (a .b) (a .keys .now)) (a .handles .now) (a .left .now) (a .right .now) (a .seed3) (a .x) (omega arith) (omega arith)
 
 walk-splits-requires : tie.Need-walk-splits-requires
 walk-splits-requires c κs = search needs

@@ -1,26 +1,15 @@
 -- `neighbour::walk::walk_splits` meets its contract: one law for each case of the walk. Assumes nothing.
 use mathlib.Core.Path.{_≡_, sym, _∙_}
-use mathlib.Core.Bool.{true, false}
 use Prim.Native.Nat.{_≤_, _<_}
 use native.Mathlib.Omega.{arith}
 use lib.ListN.{length}
 use Rattle.tables.specs.Delimiters.{delimiters}
 use Rattle.splits.specs.Splits.{len}
-use Rattle.neighbour.specs.Walk.{onPath}
-use Rattle.neighbour.specs.Ask.{NeighbourSaid, refused, saidByNeighbour, walkSays}
+use Rattle.neighbour.specs.Ask.{refused, saidByNeighbour, walkSays}
 use Rattle.neighbour.proofs.Telling.{says-bad, says-low, says-high, says-walk}
 use borrow.Author.Needs.{needs}
 use Rattle.neighbour.proofs.walk.walk_splits.Statement.{statement}
 use Rattle.neighbour.proofs.walk.walk_splits.Tie as tie
-use Rattle.neighbour.proofs.walk.walk_splits.Reads as reads
-use Rattle.neighbour.proofs.walk.walk_splits.Lts as lts
-use Rattle.neighbour.proofs.walk.decide.Reads as decide-reads
-use Rattle.neighbour.proofs.walk.descend.Reads as descend-reads
-use Rattle.neighbour.proofs.walk.on_path.Reads as on-path-reads
-use Rattle.neighbour.proofs.walk.tell.Reads as tell-reads
-use Rattle.splits.proofs.split.entry_at.Reads as entry-at-reads
-use Rattle.splits.proofs.split.len_at.Reads as len-at-reads
-use Rattle.tables.proofs.delimiter.delimiter_at.Reads as delimiter-at-reads
 
 entry-at-requires : tie.Need-entry-at-requires
 entry-at-requires c κs = search needs
@@ -86,8 +75,8 @@ returns-4 c =
     let end = c .before .entry-at3 in
     c .decide .ensures
     ∙ says-walk T (a .handles .now) (a .left .now) (a .right .now) (a .seed3) (a .x) (two p) (p .entry-at .result) (p .entry-at .ensures)
-    (rooted (c .before .before .before .before .before .before)) on (d .result .node) (d .result .probes) (first .result) (end .result) (d .ensures .node-is) (d .ensures .probes-is)
-    (first .ensures) (end .ensures)
+    (rooted (c .before .before .before .before .before .before)) on (d .result .node) (d .result .probes) (first .result) (end .result)
+    (d .ensures .node-is) (d .ensures .probes-is) (first .ensures) (end .ensures)
 
 delimiter-at-requires : tie.Need-delimiter-at-requires
 delimiter-at-requires c κs = search needs
