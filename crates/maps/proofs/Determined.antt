@@ -1,11 +1,11 @@
 -- What the definitions decide.
---     one-item-never-jams        document 01's remark
---     largest-one-size           two largest jams have one size
---     jammed-not-jamless         a jam and no jam exclude each other
---     built-decides              after a build there is a jam or there is none
---     built-accepts, built-refuses    a build accepts exactly if there is no jam
---     built-determined           two outcomes of a build on the same input are the same, up to the filling
---     jam-never-once, never-once-jam  a jam is a nonempty set that touches no cell just once, as the demands say it
+--     jam-never-once, never-once-jam    a jam is a nonempty set that touches no cell just once, as the demands say it
+--     one-item-never-jams               document 01's remark, of no items too
+--     largest-same, largest-one-size    two largest jams are one set, and have one size
+--     jammed-not-jamless                a jam and no jam exclude each other
+--     built-decides                     after a build there is a jam or there is none
+--     built-accepts, built-refuses      a build accepts exactly if there is no jam
+--     built-determined                  two outcomes of a build on the same input are the same, up to the filling
 -- Assumes nothing.
 use mathlib.Core.Path.{_≡_, refl, sym, _∙_}
 use mathlib.Core.Bool.{Bool, true, false, _&&_}

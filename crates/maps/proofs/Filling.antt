@@ -1,6 +1,6 @@
 -- Filling the cells: one store gives an item its value, and the items that do not touch the cell keep theirs.
 --     value-here, value-there      an item's value after a store
---     stored                       the store of `fill_turn`
+--     store-fixes                  the store of `fill_turn`
 --     cell-below                   a turn's cell is one of the map's
 --     fill-none, turn, fill-all    what the loop of `fill_all` keeps, and what it ends with
 -- Assumes nothing.
@@ -69,10 +69,10 @@ value-there e cells j c v h =
     (getD-set-other cells c (e 2 j) v 0 (λ z. h (inr (inr z))))
 
 -- the store of `fill_turn`: i and c are the turn's item and cell as they were read, h its hash, v its value before and y the wanted one
-pub stored : (map : Map) (keys w b : List ℕ) (p i c h v y : ℕ) → i ≡ turnItem (3 * map .m) w p → c ≡ turnCell (3 * map .m) (map .t) w p
+pub store-fixes : (map : Map) (keys w b : List ℕ) (p i c h v y : ℕ) → i ≡ turnItem (3 * map .m) w p → c ≡ turnCell (3 * map .m) (map .t) w p
     → h ≡ hashOf map keys i → v ≡ valueAt (map .m) b h → y ≡ wanted map keys i → set b c (bitXor (bitXor (getD b c 0) y) v) ≡ fixed map keys w b p
 unfolding valueOf valueAt
-stored map keys w b p i c h v y ei ec eh ev ey = rw (ev, ey, eh, ec, ei)
+store-fixes map keys w b p i c h v y ei ec eh ev ey = rw (ev, ey, eh, ec, ei)
 
 -- what the loop of `fill_all` keeps: the items of the turns from p on have their values, and only cells that items touch have changed
 pub record FilledFrom (map : Map) (keys w : List ℕ) (p : ℕ) (a b : List ℕ) : Type 0 where
@@ -82,24 +82,24 @@ pub record FilledFrom (map : Map) (keys w : List ℕ) (p : ℕ) (a b : List ℕ)
 
 -- all items are peeled
 module _ {map : Map} {keys left right w : List ℕ} (A : AtTurn map keys left right w (map .t)) where
-  abbrev St : ℕ → ℕ
-  St = turnItem (3 * map .m) w
+  abbrev Items : ℕ → ℕ
+  Items = turnItem (3 * map .m) w
 
-  abbrev At : ℕ → ℕ
-  At = turnCell (3 * map .m) (map .t) w
+  abbrev Cells : ℕ → ℕ
+  Cells = turnCell (3 * map .m) (map .t) w
 
   -- an item peeled later does not touch the cell of turn p
-  later : (p q : ℕ) → p < q → q < map .t → Touches (graph map keys) (St q) (At p) → ⊥
+  later : (p q : ℕ) → p < q → q < map .t → Touches (graph map keys) (Items q) (Cells p) → ⊥
   later p q l k h =
       let o = A .peeled .order in
-      let left : live St p (St q) ≡ true = live-le St p q (St q) (omega arith) (o .fresh q k) in
-      live-not St q (St q) (o .fresh q k) p l (sym (o .alone p (omega arith) (St q) (o .small q k) left h))
+      let left : live Items p (Items q) ≡ true = live-le Items p q (Items q) (omega arith) (o .fresh q k) in
+      live-not Items q (Items q) (o .fresh q k) p l (sym (o .alone p (omega arith) (Items q) (o .small q k) left h))
 
   item-spread : (i : ℕ) → Spread (graph map keys) (3 * map .m) i
   item-spread i = spread (map .m) (hashOf map keys) i (A .ready .fits)
 
-  pub cell-below : (p : ℕ) → p < map .t → At p < 3 * map .m
-  cell-below p l = touch-below (At p) (item-spread (St p)) (A .peeled .order .here p l)
+  pub cell-below : (p : ℕ) → p < map .t → Cells p < 3 * map .m
+  cell-below p l = touch-below (Cells p) (item-spread (Items p)) (A .peeled .order .here p l)
 
   pub fill-none : (p : ℕ) {a : List ℕ} → map .t ≤ p → Blank (3 * map .m) a → FilledFrom map keys w p a a
   unfolding Clean
@@ -111,8 +111,8 @@ module _ {map : Map} {keys left right w : List ℕ} (A : AtTurn map keys left ri
   turn {p} {a} {b} pt l F z =
       let e = graph map keys in
       let o = A .peeled .order in
-      let i = St p in
-      let c = At p in
+      let i = Items p in
+      let c = Cells p in
       let v = fix e b i c (wanted map keys i) in
       let below : c < 3 * map .m = cell-below p pt in
       rw z
@@ -120,7 +120,7 @@ module _ {map : Map} {keys left right w : List ℕ} (A : AtTurn map keys left ri
         valued = λ q pq qt.
             ⊎-elim
             (λ (x : p ≡ q). rw (← x) (value-here e b i c (wanted map keys i) (item-spread i) (omega arith) (o .here p pt)))
-            (λ (x : p < q). value-there e b (St q) c v (later p q x qt) ∙ F .valued q (omega arith) qt)
+            (λ (x : p < q). value-there e b (Items q) c v (later p q x qt) ∙ F .valued q (omega arith) qt)
             (eq-or-lt-of-le pq);
         clean = λ k m u. getD-set-other b c k v 0 (λ x. u i (o .small p pt) (rw x (o .here p pt))) ∙ F .clean k m u;
         beyond = λ k m. getD-set-other b c k v 0 (λ x. omega arith) ∙ F .beyond k m;
@@ -131,8 +131,8 @@ module _ {map : Map} {keys left right w : List ℕ} (A : AtTurn map keys left ri
   fill-all {a} {b} F =
       record {
         valued = λ i l.
-            let r : (p : ℕ) × (p < map .t) × (St p ≡ i) =
-            live-out St (map .t) i (none-left (graph map keys) (map .t) St At (map .t) (A .peeled .order) refl i l) in
+            let r : (p : ℕ) × (p < map .t) × (Items p ≡ i) =
+            live-out Items (map .t) i (none-left (graph map keys) (map .t) Items Cells (map .t) (A .peeled .order) refl i l) in
             subst (λ (j : ℕ). valueOf (graph map keys) b j ≡ wanted map keys j) (r .2) (F .valued (r .0) (omega arith) (r .1));
         clean = F .clean;
         beyond = F .beyond;

@@ -1,9 +1,10 @@
 -- An item put in at one cell, and at its three cells.
---     spread             the three cells of a hash rise, one in each segment
---     put-at, take-at    the two stores of `put_in` and of `take_out`
---     other-kept         another cell keeps its count
---     puts               put in at three cells that rise: put in
---     touch-below        a touched cell is one of the map's
+--     spread, touch-below     the three cells of a hash rise, one in each segment of the map
+--     cells-found             three cells computed from a hash are those of its item
+--     put-at, take-at         the two stores of `put_in` and of `take_out`
+--     other-kept              another cell keeps its count
+--     puts                    put in at three cells that rise is put in at each
+--     touches-as, put-as      what holds of the cells found for an item holds of the item
 -- Assumes nothing.
 use mathlib.Core.Path.{_≡_, refl, sym, ap, _∙_}
 use mathlib.Core.Bool.{Bool, true, false, _||_}

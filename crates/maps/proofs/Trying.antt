@@ -1,9 +1,10 @@
 -- Cells tried one after another, until no cell has one item left.
---     not-tried, tried-none    no step
---     tried-then, tried-next   some tried, then more, or one more
---     tried-three              the three cells of an item tried
---     tried-queue              all tried: a cell with one item left is touched by a peeled item
---     queue-next               the cells of the item of turn q tried: the queue goes on at turn q + 1
+--     first-turn, next-turn, turn-small    the state of the work between two turns
+--     not-tried, tried-none                no step
+--     tried-then, tried-next               some tried, then more, or one more
+--     tried-three                          the three cells of an item tried
+--     tried-queue                          all tried: a cell with one item left is touched by a peeled item
+--     queue-next                           the cells of the item of turn q tried: the queue goes on at turn q + 1
 -- Assumes nothing.
 use mathlib.Core.Path.{_≡_, refl, sym, ap, _∙_, subst}
 use mathlib.Core.List.{List}

@@ -7,7 +7,7 @@ use denote.Ref.{now}
 use lib.ListN.{getD}
 use Rattle.maps.specs.Inner.Work.{turnItem, turnCell}
 use Rattle.maps.proofs.Trying.{turn-small}
-use Rattle.maps.proofs.Filling.{stored, cell-below}
+use Rattle.maps.proofs.Filling.{store-fixes, cell-below}
 use borrow.Author.Needs.{needs}
 use Rattle.maps.proofs.fill.fill_turn.Statement.{statement}
 use Rattle.maps.proofs.fill.fill_turn.Tie as tie
@@ -65,7 +65,7 @@ returns : tie.Need-returns
 returns c =
     let hashed = c .before .before .before in
     let s = start (hashed .before .before .before .before) in
-    stored (s .args .map) (now (s .args .keys)) (now (s .args .work)) (now (s .args .cells)) (s .args .p) (I s) (C s)
+    store-fixes (s .args .map) (now (s .args .keys)) (now (s .args .work)) (now (s .args .cells)) (s .args .p) (I s) (C s)
     (hashed .hash-at .result) (c .before .before .value-of .result) (c .value-at .result)
     (item-at s) (cell-at s) (hashed .hash-at .ensures) (c .before .before .value-of .ensures) (c .value-at .ensures)
 
