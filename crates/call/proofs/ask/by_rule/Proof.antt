@@ -1,0 +1,103 @@
+-- `call::ask::by_rule` meets its contract: the rule from what the look-ups find; the second looks at the part from cell C(n) on. Assumes nothing.
+use mathlib.Core.Path.{_∙_}
+use native.Mathlib.Omega.{arith}
+use borrow.Author.Needs.{needs}
+use Prim.Native.Nat.{_-_}
+use lib.ListN.{length, take, drop, length-drop}
+use lib.Seq.{take-all}
+use Rattle.call.proofs.Asking.{row-fits, rule-long, rule-row}
+use Rattle.call.proofs.ask.by_rule.Statement.{statement}
+use Rattle.call.proofs.ask.by_rule.Tie as tie
+
+look-up-requires : tie.Need-look-up-requires
+look-up-requires c κs = search needs
+
+returns : tie.Need-returns
+returns c =
+    let s = c .before .before .before .before in
+    rule-long (s .args .keys .now) (s .args .b) (s .args .seed1) (s .args .seed2) (s .args .cells .now) (s .args .x)
+    (c .before .look-up .result) (c .before .look-up .ensures) (c .if1 .taken)
+
+bucket-count-requires : tie.Need-bucket-count-requires
+bucket-count-requires c κs = search needs
+
+cell-count-requires : tie.Need-cell-count-requires
+cell-count-requires c κs = search needs
+
+cast-prefix-item : tie.Need-cast-prefix-item
+cast-prefix-item c = search needs
+
+prefix-item-requires : tie.Need-prefix-item-requires
+prefix-item-requires c κs = search needs
+
+mul-look-up : tie.Need-mul-look-up
+mul-look-up c = search needs
+
+sub-look-up : tie.Need-sub-look-up
+sub-look-up c = search needs
+
+part-look-up-start : tie.Need-part-look-up-start
+part-look-up-start c = search needs
+
+part-look-up-end : tie.Need-part-look-up-end
+part-look-up-end c = search needs
+
+look-up-requires-2 : tie.Need-look-up-requires-2
+look-up-requires-2 c κs = search needs
+
+widen-requires : tie.Need-widen-requires
+widen-requires c κs = search needs
+
+mul-compared : tie.Need-mul-compared
+mul-compared c =
+    let s = c .before .before .before .before .before .before .before .before .before .before in
+    omega (arith, row-fits (c .widen .result) (s .args .b) (c .widen .ensures .1) (s .pre .most))
+
+widen-requires-2 : tie.Need-widen-requires-2
+widen-requires-2 c κs = search needs
+
+add-compared : tie.Need-add-compared
+add-compared c =
+    let s = c .before .before .before .before .before .before .before .before .before .before .before in
+    omega (arith, row-fits (c .before .widen .result) (s .args .b) (c .before .widen .ensures .1) (s .pre .most), c .widen2 .ensures .1)
+
+compared-requires : tie.Need-compared-requires
+compared-requires c κs = search needs
+
+returns-2 : tie.Need-returns-2
+returns-2 c =
+    let w = c .before .before in
+    let l = w .before in
+    let p = l .before .before in
+    let e = p .before .before .before in
+    let s = e .before .before .before .before in
+    let cells = s .args .cells .now in
+    let from = p .before .cell-count .result in
+    let found =
+    rule-row (s .args .keys .now) (s .args .b) (s .args .seed1) (s .args .seed2) cells (s .args .x) (e .before .look-up .result) (e .before .look-up .ensures)
+    from (p .before .before .bucket-count .result) (p .prefix-item .result) (l .look-up2 .result) (take (length cells - from) (drop from cells))
+    (e .if1 .left) (p .before .cell-count .ensures .0) (p .before .before .bucket-count .ensures .0) (p .prefix-item .ensures)
+    (take-all (length cells - from) (drop from cells) (omega (arith, length-drop from cells))) (l .look-up2 .ensures) in
+    c .compared .ensures ∙ rw (w .widen .ensures .0, c .before .widen2 .ensures .0) found
+
+pub by-rule-spec : {M : Type 1} → statement M
+by-rule-spec =
+    tie.close
+    (tie.spec
+    look-up-requires
+    returns
+    bucket-count-requires
+    cell-count-requires
+    cast-prefix-item
+    prefix-item-requires
+    mul-look-up
+    sub-look-up
+    part-look-up-start
+    part-look-up-end
+    look-up-requires-2
+    widen-requires
+    mul-compared
+    widen-requires-2
+    add-compared
+    compared-requires
+    returns-2)
