@@ -13,3 +13,5 @@ pub mod Steps
 pub mod Telling
 pub mod Asking
 pub mod Testing
+pub mod Judging
+pub mod Storing

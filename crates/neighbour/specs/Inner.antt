@@ -6,7 +6,9 @@ use Prim.Native.Nat.{ℕ, _-_, _≤_, _<_}
 use lib.ListN.{length}
 use Rattle.words.specs.Keys.{prefixItem}
 use Rattle.cells.specs.Cells.{cellCount, mapValue}
+use Rattle.tables.specs.Tables.{Table}
 use Rattle.tables.specs.Delimiters.{delimiters, Bucketed}
+use Rattle.tables.specs.Lengths.{handleCells, neighbourWork}
 use Rattle.splits.specs.Splits.{len}
 use Rattle.splits.specs.Inner.{SplitOf, Counted}
 use Rattle.neighbour.specs.Walk.{probeAt, accepted, descend}
@@ -50,3 +52,12 @@ pub record Reached (T : List ℕ) (x : ℕ) (find : ℕ → ℕ) (root : ℕ) (d
   pub pos : 0 < d .node
   pub small : d .node < length T
   pub short : len T (d .node) < 64
+
+-- a table whose delimiters are counted, and stores and work with room for them
+pub record Storable (b : ℕ) (keys handles left right work : List ℕ) : Type 0 where
+  pub table : Table keys
+  pub bucketed : Bucketed b keys
+  pub handlesLong : handleCells (length (delimiters b keys)) ≤ length handles
+  pub leftLong : length (delimiters b keys) ≤ length left
+  pub rightLong : length (delimiters b keys) ≤ length right
+  pub workLong : neighbourWork (length (delimiters b keys)) ≤ length work

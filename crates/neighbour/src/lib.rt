@@ -6,7 +6,10 @@ ghost use mathlib.Core.Path.{_≡_};
 ghost use Rattle.neighbour.specs.Ask.{saidByNeighbour, neighbourSays};
 use refusals::Refusal;
 
+pub mod build;
 pub mod walk;
+
+pub use build::neighbour_build;
 
 // Where x stands: the keys before it, the probes made, and whether it is in the table.
 pub struct Place {

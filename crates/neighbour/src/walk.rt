@@ -20,16 +20,16 @@ use words::prefix::prefix_item;
 use words::prefix::shared_bits;
 
 // The node, its length, and the length below which the others on x's path lie.
-pub struct State {
-    pub node: usize,
-    pub lower: u32,
-    pub upper: u32,
+struct State {
+    node: usize,
+    lower: u32,
+    upper: u32,
 }
 
 // The node at which the probes end, and how many they were.
-pub struct Descended {
-    pub node: usize,
-    pub probes: usize,
+struct Descended {
+    node: usize,
+    probes: usize,
 }
 
 // How many items map 3 of n keys has.

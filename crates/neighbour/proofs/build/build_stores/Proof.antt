@@ -1,0 +1,117 @@
+-- `neighbour::build::build_stores` meets its contract: the bounds are written, and map 3 is built over them. Assumes nothing.
+use mathlib.Core.Path.{_≡_, sym, ap, _∙_}
+use mathlib.Core.List.{List}
+use Prim.Native.Nat.{ℕ}
+use native.Mathlib.Omega.{arith}
+use denote.Ref.{now}
+use lib.ListN.{length}
+use borrow.Author.Needs.{needs}
+use Rattle.cells.specs.Memory.{cleared}
+use Rattle.tables.specs.Delimiters.{delimiters}
+use Rattle.tables.proofs.Delimiting.{delimiters-table}
+use Rattle.items.specs.Items.{itemsOf, valuesOf, Bounds}
+use Rattle.items.proofs.Handling.{stores-bounds}
+use Rattle.neighbour.proofs.Storing.{handles-room, stores-filled, stores-jammed}
+use Rattle.neighbour.proofs.build.build_stores.Statement.{statement}
+use Rattle.neighbour.proofs.build.build_stores.Tie as tie
+
+build-bounds-requires : tie.Need-build-bounds-requires
+build-bounds-requires c κs =
+    let s = c .before .before .before .before .before .before .before in
+    record {
+      bucketed = s .pre .bucketed;
+      table = delimiters-table (s .args .b) (s .args .keys .now) (s .pre .bucketed .some) (s .pre .table);
+      left-room = s .pre .leftLong;
+      right-room = s .pre .rightLong;
+    }
+
+build-requires : tie.Need-build-requires
+unfolding itemsOf
+build-requires c κs =
+    let e = c .before .before .before .before .before .before .before .before in
+    let s = e .before .before .before .before .before .before .before .before in
+    let keys = s .args .keys .now in
+    let b = s .args .b in (
+      record {
+        source =
+            rw (e .build-bounds .ensures .0, e .build-bounds .ensures .1)
+            (stores-bounds b keys (s .args .left .now) (s .args .right .now) (s .pre .table) (s .pre .bucketed) (s .pre .leftLong) (s .pre .rightLong));
+      },
+      handles-room b keys (s .args .handles .now) (s .args .left .now) (s .args .right .now) (s .args .work .now) (s .pre),
+    )
+
+delimiter-count-requires : tie.Need-delimiter-count-requires
+delimiter-count-requires c κs = search needs
+
+clear-requires : tie.Need-clear-requires
+clear-requires c κs = search needs
+
+clear-requires-2 : tie.Need-clear-requires-2
+clear-requires-2 c κs = search needs
+
+same-length : tie.Need-same-length
+same-length c = search needs
+
+same-length-2 : tie.Need-same-length-2
+same-length-2 c = search needs
+
+same-length-3 : tie.Need-same-length-3
+same-length-3 c = search needs
+
+same-length-4 : tie.Need-same-length-4
+same-length-4 c = search needs
+
+returns : tie.Need-returns
+unfolding itemsOf valuesOf
+returns c =
+    let t = c .before .before .before .before .before .before .before .before .before in
+    let m = t .before .before .before .before .before in
+    let e = m .before .before .before .before .before .before .before .before .before in
+    let s = e .before .before .before .before .before .before .before .before in
+    let d = c .before .before .before .before .before .before .before .before .delimiter-count .ensures .0 in
+    stores-jammed (delimiters (s .args .b) (s .args .keys .now)) (s .args .seed3) (s .args .handles .now) (s .args .left .now) (s .args .right .now) (s .args .work .now)
+    (m .build .last .1 .1 .1 .1 .1 .0) (m .build .last .1 .1 .1 .1 .1 .1 .0) (m .build .result) (m .build .ensures) (t .if1 .taken)
+    (e .build-bounds .last .1 .1 .0) (e .build-bounds .last .1 .1 .1 .0) (c .before .before .before .before .before .before .clear .last .0) (c .before .before .clear2 .last .0)
+    (e .build-bounds .ensures .0) (e .build-bounds .ensures .1) (rw d at (c .before .before .before .before .before .before .clear .ensures)) (rw d at (c .before .before .clear2 .ensures))
+
+same-length-5 : tie.Need-same-length-5
+same-length-5 c = search needs
+
+same-length-6 : tie.Need-same-length-6
+same-length-6 c = search needs
+
+same-length-7 : tie.Need-same-length-7
+same-length-7 c = search needs
+
+same-length-8 : tie.Need-same-length-8
+same-length-8 c = search needs
+
+returns-2 : tie.Need-returns-2
+unfolding itemsOf valuesOf
+returns-2 c =
+    let m = c .before .before .before .before .before in
+    let e = m .before .before .before .before .before .before .before .before .before in
+    let s = e .before .before .before .before .before .before .before .before in
+    stores-filled (delimiters (s .args .b) (s .args .keys .now)) (s .args .seed3) (s .args .handles .now) (s .args .left .now) (s .args .right .now) (s .args .work .now)
+    (m .build .last .1 .1 .1 .1 .1 .0) (m .build .last .1 .1 .1 .1 .1 .1 .0) (m .build .result) (m .build .ensures) (omega (arith, c .if1 .left))
+    (e .build-bounds .last .1 .1 .0) (e .build-bounds .last .1 .1 .1 .0) (e .build-bounds .ensures .0) (e .build-bounds .ensures .1)
+
+pub build-stores-spec : {M : Type 1} → statement M
+build-stores-spec =
+    tie.close
+    (tie.spec
+    build-bounds-requires
+    build-requires
+    delimiter-count-requires
+    clear-requires
+    clear-requires-2
+    same-length
+    same-length-2
+    same-length-3
+    same-length-4
+    returns
+    same-length-5
+    same-length-6
+    same-length-7
+    same-length-8
+    returns-2)
