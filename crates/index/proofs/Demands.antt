@@ -1,0 +1,153 @@
+-- The customer's demands, proved. Assumes nothing.
+use mathlib.Core.Path.{_≡_, refl, sym, ap, _∙_}
+use mathlib.Core.Bool.{Bool, true}
+use mathlib.Core.List.{List}
+use mathlib.Core.Logic.{_↔_}
+use Prim.Native.Nat.{ℕ, _-_, _^_, _≤_, _<_}
+use native.Mathlib.Nat.{le-refl}
+use native.Mathlib.Omega.{arith}
+use lib.ListN.{length}
+use Rattle.refusals.specs.Numbers.{BuildSaid, taken, refused}
+use Rattle.words.specs.Fat.{binaryDigits, done}
+use Rattle.words.proofs.Probing.{probes-from}
+use Rattle.tables.specs.Tables.{keyAt, Table, smaller, sharedByAll}
+use Rattle.tables.proofs.Rising.{no-fall-table, keys-rise, keys-above}
+use Rattle.cells.specs.Cells.{mapValue}
+use Rattle.items.specs.Items.{prefixItems, handleItems}
+use Rattle.maps.specs.Jam.{Jammed}
+use Rattle.call.specs.Build.{MapsBuilt, jam₁, jam₂, CallBuilt}
+use Rattle.call.specs.Build as cb
+use Rattle.call.specs.Ask.{CallSaid, row, absent, callSays, ruleSays}
+use Rattle.call.proofs.Asking.{says-rule}
+use Rattle.call.proofs.Answers.{rule-absent, rule-said}
+use Rattle.call.proofs.Planned.{planned-row}
+use Rattle.neighbour.specs.Build.{StoresBuilt, jam₃, NeighbourBuilt}
+use Rattle.neighbour.specs.Build as nb
+use Rattle.neighbour.specs.Walk.{Walk, pathWalk}
+use Rattle.neighbour.specs.Ask.{place, standsAt, handleCount, neighbourSays}
+use Rattle.neighbour.proofs.Asking.{stands-iff, path-probes, stored-says, sizes-pass, ask-six}
+use Rattle.neighbour.proofs.Answering.{stored-walk}
+use Rattle.neighbour.proofs.Deciding.{smaller-low, smaller-high, smaller-most}
+use Rattle.index.specs.Demands.{Words, NotIn, CallRefusesJams, NeighbourRefusesJams, PlannedGetsItsRow, RowsAreSorted, OthersAreAbsent, Monotone, Searched, SearchIsExact, SixAtMost}
+use Rattle.index.proofs.Accepted.{CallAccepted, call-accepted, accepted-sorted, accepted-askable, NeighbourAccepted, neighbour-accepted}
+
+never : {A : Type 0} {said : BuildSaid} {k i l j : ℕ} → said ≡ refused k i → said ≡ refused l j → (i ≡ j → ⊥) → A
+never e f apart = absurd (apart (cc))
+
+not-taken : {A : Type 0} {said : BuildSaid} (k i : ℕ) → said ≡ refused k i → said ≡ taken → A
+not-taken k i e f = absurd (let z : _≡_ {A = ℕ} 0 1 = cc in omega arith)
+
+one-two : _≡_ {A = ℕ} 1 2 → ⊥
+one-two e = omega arith
+
+-- demand 1
+call-jams : (keys : List ℕ) (b s t : ℕ) (cells work : List ℕ) (said : BuildSaid) (c′ w′ : List ℕ) → MapsBuilt keys b s t cells work said c′ w′
+    → ((said ≡ refused 5 1) ↔ Jammed s keys)
+    × ((said ≡ refused 5 2) ↔ ((Jammed s keys → ⊥) × Jammed t (prefixItems b keys)))
+    × ((said ≡ taken) ↔ ((Jammed s keys → ⊥) × (Jammed t (prefixItems b keys) → ⊥)))
+call-jams keys b s t cells work said c′ w′ (jam₁ J e c w) = (
+  ((λ f. J), (λ K. e)),
+  ((λ f. never e f one-two), (λ K. absurd (K .0 J))),
+  ((λ f. not-taken 5 1 e f), (λ K. absurd (K .0 J))),
+)
+call-jams keys b s t cells work said c′ w′ (jam₂ N J e c w) = (
+  ((λ f. never f e one-two), (λ K. absurd (N (K .0) (K .1)))),
+  ((λ f. ((λ K. N (K .0) (K .1)), J)), (λ K. e)),
+  ((λ f. not-taken 5 2 e f), (λ K. absurd (K .1 J))),
+)
+call-jams keys b s t cells work said c′ w′ (cb.filled N M e F w) = (
+  ((λ f. not-taken 5 1 f e), (λ K. absurd (N (K .0) (K .1)))),
+  ((λ f. not-taken 5 2 f e), (λ K. absurd (M (K .1 .0) (K .1 .1)))),
+  ((λ f. ((λ K. N (K .0) (K .1)), (λ K. M (K .0) (K .1)))), (λ K. e)),
+)
+
+pub call-refuses-jams : CallRefusesJams
+call-refuses-jams keys b s t cells work said c′ w′ (cb.refusal k i j e c w) passed = not-taken k i j passed
+call-refuses-jams keys b s t cells work said c′ w′ (cb.verdict j M) passed = call-jams keys b s t cells work said c′ w′ M
+
+pub neighbour-refuses-jams : NeighbourRefusesJams
+neighbour-refuses-jams keys s h l r w said h′ l′ r′ w′ (nb.refusal k i j e a b c d) passed = not-taken k i j passed
+neighbour-refuses-jams keys s h l r w said h′ l′ r′ w′ (nb.verdict j (jam₃ J e a b c d)) passed =
+    (((λ f. J), (λ K. e)), ((λ f. not-taken 5 3 e f), (λ K. absurd (K J))))
+neighbour-refuses-jams keys s h l r w said h′ l′ r′ w′ (nb.verdict j (nb.filled N e F el er d)) passed =
+    (((λ f. not-taken 5 3 f e), (λ K. absurd (N (K .0) (K .1)))), ((λ f. (λ K. N (K .0) (K .1))), (λ K. e)))
+
+-- demand 2
+module _ (keys : List ℕ) (b seed₁ seed₂ : ℕ) (cells work cells′ work′ : List ℕ) (B : CallBuilt keys b seed₁ seed₂ cells work taken cells′ work′) where
+  A : CallAccepted keys b seed₁ seed₂ cells cells′
+  A = call-accepted keys b seed₁ seed₂ cells work cells′ work′ B
+
+  by-rule : (x : ℕ) → callSays keys b seed₁ seed₂ cells′ x ≡ ruleSays keys b seed₁ seed₂ cells′ x
+  by-rule x = says-rule keys b seed₁ seed₂ cells′ x (accepted-askable A)
+
+  planned : Words keys → (r : ℕ) → r < length keys → callSays keys b seed₁ seed₂ cells′ (keyAt keys r) ≡ row r
+  planned w r h = by-rule (keyAt keys r) ∙ planned-row keys b seed₁ seed₂ cells cells′ (accepted-sorted A w) (A .filled) r h
+
+  others : (x : ℕ) → NotIn x keys → callSays keys b seed₁ seed₂ cells′ x ≡ absent
+  others x none = by-rule x ∙ rule-absent keys x none b seed₁ seed₂ cells′
+
+  said-row : (x i : ℕ) → callSays keys b seed₁ seed₂ cells′ x ≡ row i → (i < length keys) × (keyAt keys i ≡ x)
+  said-row x i e = rule-said keys x b seed₁ seed₂ cells′ i (sym (by-rule x) ∙ e)
+
+  module _ (w : Words keys) where
+    T : Table keys
+    T = no-fall-table keys w (A .rises)
+
+    -- the number of smaller keys is the row
+    sorted : (r : ℕ) → r < length keys → smaller keys (keyAt keys r) ≡ r
+    sorted r h =
+        let x = keyAt keys r in
+        let c = smaller keys x in
+        let not-above : ¬ (r < c) = λ g. (omega (arith, smaller-low keys T x r g)) in
+        let not-below : ¬ (c < r) = λ g. (omega (arith, smaller-high keys T x c (le-refl c) (omega arith), keys-above keys T c r g h)) in
+        omega arith
+
+    in-order : (x y i j : ℕ) → (i < length keys) × (keyAt keys i ≡ x) → (j < length keys) × (keyAt keys j ≡ y) → (x < y) ↔ (i < j)
+    in-order x y i j p q = (
+      (λ less. let no : ¬ (j ≤ i) = λ g. (omega (arith, keys-rise keys T j i g (p .0))) in omega arith),
+      (λ less. omega (arith, keys-above keys T i j less (q .0))),
+    )
+
+pub planned-gets-its-row : PlannedGetsItsRow
+planned-gets-its-row keys b s t cells work cells′ work′ w B = planned keys b s t cells work cells′ work′ B w
+
+pub rows-are-sorted : RowsAreSorted
+rows-are-sorted keys b s t cells work cells′ work′ w B = sorted keys b s t cells work cells′ work′ B w
+
+pub others-are-absent : OthersAreAbsent
+others-are-absent keys b s t cells work cells′ work′ B x h none = others keys b s t cells work cells′ work′ B x none
+
+pub monotone : Monotone
+monotone keys b s t cells work cells′ work′ w B x y i j e f =
+    in-order keys b s t cells work cells′ work′ B w x y i j (said-row keys b s t cells work cells′ work′ B x i e)
+    (said-row keys b s t cells work cells′ work′ B y j f)
+
+-- 63 - L has at most six binary digits
+digits-six : (L : ℕ) → binaryDigits (63 - L) ≤ 6
+digits-six L =
+    let same : 63 - (63 - (63 - L)) ≡ 63 - L = omega arith in
+    rw same at (probes-from (63 - (63 - L)) (omega arith) done .1)
+
+-- demand 3
+pub search-is-exact : SearchIsExact
+search-is-exact keys seed handles left right work h l r w′ w two B x hx =
+    let A = neighbour-accepted keys seed handles left right work h l r w′ B in
+    let T = no-fall-table keys w (A .rises) in
+    let c = smaller keys x in
+    let walked = stored-walk keys T x (mapValue h (handleCount keys) seed) l r (A .stored) in (
+      length (pathWalk keys x .probed),
+      (
+        standsAt keys x c,
+        record {
+          says =
+              sizes-pass keys h l r seed x (A .few) (A .handlesLong) (A .leftLong) (A .rightLong) ∙ stored-says keys T h l r seed x (A .stored);
+          counted = ap (λ (v : Walk). length (v .probed)) (sym walked);
+          few = path-probes keys T x;
+          six = digits-six (sharedByAll keys);
+          where-it-stands = stands-iff keys T x;
+        },
+      ),
+    )
+
+pub six-at-most : SixAtMost
+six-at-most keys seed handles left right x before probes stands e = ask-six before probes stands keys handles left right seed x e
