@@ -1,0 +1,39 @@
+-- `digits::hex::hex_value` meets its contract: two ranges of bytes are digits, the three others none. Assumes nothing.
+use native.Mathlib.Omega.{arith}
+use borrow.Author.Needs.{needs}
+use Rattle.digits.proofs.Hexes.{hexes-low, hexes-high, hexes-none}
+use Rattle.digits.proofs.hex.hex_value.Statement.{statement}
+use Rattle.digits.proofs.hex.hex_value.Tie as tie
+
+wide-requires : tie.Need-wide-requires
+wide-requires c κs = search needs
+
+returns : tie.Need-returns
+returns c = hexes-none (c .before .before .args .b) (c .before .wide .result) (c .before .wide .ensures) (omega arith) (omega arith)
+
+returns-2 : tie.Need-returns-2
+returns-2 c =
+    let f = c .before .before in
+    hexes-low (f .before .args .b) (f .wide .result) (f .wide .ensures) (omega arith) (omega arith)
+
+returns-3 : tie.Need-returns-3
+returns-3 c =
+    let f = c .before .before .before in
+    hexes-none (f .before .args .b) (f .wide .result) (f .wide .ensures) (omega arith) (omega arith)
+
+sub-result : tie.Need-sub-result
+sub-result c = search needs
+
+returns-4 : tie.Need-returns-4
+returns-4 c =
+    let f = c .before .before .before .before in
+    hexes-high (f .before .args .b) (f .wide .result) (f .wide .ensures) (omega arith) (omega arith)
+
+returns-5 : tie.Need-returns-5
+returns-5 c =
+    let f = c .before .before .before .before in
+    hexes-none (f .before .args .b) (f .wide .result) (f .wide .ensures) (omega arith) (omega arith)
+
+pub hex-value-spec : {M : Type 1} → statement M
+hex-value-spec =
+    tie.close (tie.spec wide-requires returns returns-2 returns-3 sub-result returns-4 returns-5)

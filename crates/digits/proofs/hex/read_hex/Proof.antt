@@ -1,0 +1,131 @@
+-- `digits::hex::read_hex` meets its contract. The loop's invariant: v is the number of the k digits passed. The measure is how many digits are
+-- left. Assumes nothing.
+use native.Mathlib.Omega.{arith}
+use borrow.Author.Needs.{needs}
+use Prim.Native.Nat.{_≤_, _<_, _-_, _+_, _^_}
+use mathlib.Core.Path.{_≡_}
+use lib.Seq.{slice}
+use Rattle.digits.specs.Numbers.{digitsIn}
+use Rattle.digits.proofs.Hexes.{hex-start, hex-step, hex-below, hex-fits, hex-short, hex-none, hex-open, hex-over, hex-value-is}
+use Rattle.digits.proofs.hex.read_hex.Statement.{statement}
+use Rattle.digits.proofs.hex.read_hex.Tie as tie
+
+abbrev Inv-loop : tie.InvT-loop
+Inv-loop s i most end k₀ v₀ k v = (k ≤ 16) × (v < 16 ^ k) × (digitsIn 16 k v ≡ slice i (i + k) s)
+
+abbrev μ-loop : tie.MeasureT-loop
+μ-loop s i most end k₀ v₀ k v = 16 - k
+
+returns : tie.Need-returns Inv-loop μ-loop
+returns c =
+    let a = c .before .before .args in
+    hex-short (a .s .now) (a .i) (a .most) (a .end) (omega arith)
+
+sub-if2 : tie.Need-sub-if2 Inv-loop μ-loop
+sub-if2 c = search needs
+
+returns-2 : tie.Need-returns-2 Inv-loop μ-loop
+returns-2 c =
+    let a = c .before .before .before .args in
+    hex-short (a .s .now) (a .i) (a .most) (a .end) (omega arith)
+
+loop-holds : tie.Need-loop-holds Inv-loop μ-loop
+loop-holds c = (omega arith, omega arith, hex-start (c .before .before .before .args .s .now) (c .before .before .before .args .i))
+
+add-hex-value : tie.Need-add-hex-value Inv-loop μ-loop
+add-hex-value c = search needs
+
+shared-slice-read-hex-value : tie.Need-shared-slice-read-hex-value Inv-loop μ-loop
+shared-slice-read-hex-value c = search needs
+
+hex-value-requires : tie.Need-hex-value-requires Inv-loop μ-loop
+hex-value-requires c κs = search needs
+
+returns-3 : tie.Need-returns-3 Inv-loop μ-loop
+returns-3 c =
+    let l = c .before .before .before .before in
+    let a = l .before .before .before .before .args in
+    hex-none (a .s .now) (a .i) (a .most) (a .end) (l .loop .k) (omega arith) (c .before .hex-value .ensures .none (omega arith))
+
+mul-v : tie.Need-mul-v Inv-loop μ-loop
+mul-v c =
+    let l = c .before .before .before .before .loop in
+    omega (arith, hex-fits (l .k) (l .v) 0 (omega arith) (l .inv .1) (omega arith))
+
+add-v : tie.Need-add-v Inv-loop μ-loop
+add-v c =
+    let l = c .before .before .before .before .loop in
+    omega (arith, hex-fits (l .k) (l .v) (c .before .hex-value .result) (omega arith) (l .inv .1) (omega arith))
+
+add-k : tie.Need-add-k Inv-loop μ-loop
+add-k c = search needs
+
+loop-less : tie.Need-loop-less Inv-loop μ-loop
+loop-less c = search needs
+
+loop-again : tie.Need-loop-again Inv-loop μ-loop
+loop-again c =
+    let l = c .before .before .before .before in
+    let a = l .before .before .before .before .args in
+    let d = c .before .hex-value in (
+      omega arith,
+      hex-below (l .loop .k) (l .loop .v) (d .result) (omega arith) (l .loop .inv .1),
+      hex-step (l .loop .k) (l .loop .v) (d .result) (omega arith) (a .s .now) (a .i) (omega arith) (d .ensures .some (omega arith))
+          (l .loop .inv .2),
+    )
+
+add-if4 : tie.Need-add-if4 Inv-loop μ-loop
+add-if4 c = search needs
+
+shared-slice-read-if4 : tie.Need-shared-slice-read-if4 Inv-loop μ-loop
+shared-slice-read-if4 c = search needs
+
+returns-4 : tie.Need-returns-4 Inv-loop μ-loop
+returns-4 c =
+    let a = c .before .before .before .before .before .before .before .args in
+    hex-open (a .s .now) (a .i) (a .most) (a .end) (c .if4 .taken)
+
+returns-5 : tie.Need-returns-5 Inv-loop μ-loop
+returns-5 c =
+    let l = c .before .before .before .before .loop in
+    let a = c .before .before .before .before .before .before .before .before .args in
+    let e : l .k ≡ 16 = omega arith in
+    hex-over (a .s .now) (a .i) (a .most) (a .end) (l .v) (omega arith) (rw e at (l .inv .1)) (rw e at (l .inv .2))
+    (c .before .if4 .left) (c .if5 .taken)
+
+add-t10 : tie.Need-add-t10 Inv-loop μ-loop
+add-t10 c = search needs
+
+returns-6 : tie.Need-returns-6 Inv-loop μ-loop
+returns-6 c =
+    let l = c .before .before .before .before .loop in
+    let a = c .before .before .before .before .before .before .before .before .args in
+    let e : l .k ≡ 16 = omega arith in
+    hex-value-is (a .s .now) (a .i) (a .most) (a .end) (l .v) (omega arith) (rw e at (l .inv .1)) (rw e at (l .inv .2))
+    (c .before .if4 .left) (c .if5 .left)
+
+pub read-hex-spec : {M : Type 1} → statement M
+read-hex-spec =
+    tie.close
+    (tie.spec
+    Inv-loop
+    μ-loop
+    returns
+    sub-if2
+    returns-2
+    loop-holds
+    add-hex-value
+    shared-slice-read-hex-value
+    hex-value-requires
+    returns-3
+    mul-v
+    add-v
+    add-k
+    loop-less
+    loop-again
+    add-if4
+    shared-slice-read-if4
+    returns-4
+    returns-5
+    add-t10
+    returns-6)

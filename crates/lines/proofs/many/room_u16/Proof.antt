@@ -1,0 +1,82 @@
+-- `lines::many::room_u16` meets its contract. The loop's invariant: `left` is what k lines leave of the room. The measure is how many lines are
+-- left. Assumes nothing.
+use native.Mathlib.Omega.{arith}
+use borrow.Author.Needs.{needs}
+use Prim.Native.Nat.{_≤_, _-_, _+_}
+use mathlib.Core.Path.{_≡_}
+use lib.ListN.{length, take}
+use Rattle.lines.specs.Lines.{line, lines}
+use Rattle.lines.proofs.Putting.{room-start, room-off, room-more, room-end}
+use Rattle.lines.proofs.many.room_u16.Statement.{statement}
+use Rattle.lines.proofs.many.room_u16.Tie as tie
+
+abbrev Inv-loop : tie.InvT-loop
+Inv-loop room tag kind xs left₀ k₀ left k = (k ≤ length xs) × (left + length (lines kind tag (take k xs)) ≡ room)
+
+abbrev μ-loop : tie.MeasureT-loop
+μ-loop room tag kind xs left₀ k₀ left k = length xs - k
+
+loop-holds : tie.Need-loop-holds Inv-loop μ-loop
+loop-holds c =
+    let a = c .before .before .args in
+    (omega arith, room-start (line (a .kind) (a .tag .now)) (a .xs .now) (a .room))
+
+mul-line-length : tie.Need-mul-line-length Inv-loop μ-loop
+mul-line-length c = search needs
+
+shared-slice-read-line-length : tie.Need-shared-slice-read-line-length Inv-loop μ-loop
+shared-slice-read-line-length c = search needs
+
+cast-line-length : tie.Need-cast-line-length Inv-loop μ-loop
+cast-line-length c = omega (arith, c .shared-slice-known3 .given (c .before .before .loop .k))
+
+line-length-requires : tie.Need-line-length-requires Inv-loop μ-loop
+line-length-requires c κs = search needs
+
+returns : tie.Need-returns Inv-loop μ-loop
+returns c =
+    let p = c .before .before .before .before in
+    let a = p .before .before .before .args in
+    let l = p .loop in
+    let w = c .before .line-length in
+    room-off (line (a .kind) (a .tag .now)) (a .xs .now) (a .room) (l .left) (l .k) (w .result)
+    (c .before .before .before .loop-test .taken) (l .inv .1) (w .ensures .0) (c .if1 .taken)
+
+add-k : tie.Need-add-k Inv-loop μ-loop
+add-k c = search needs
+
+loop-less : tie.Need-loop-less Inv-loop μ-loop
+loop-less c = search needs
+
+loop-again : tie.Need-loop-again Inv-loop μ-loop
+loop-again c =
+    let p = c .before .before .before .before in
+    let a = p .before .before .before .args in
+    let l = p .loop in
+    let w = c .before .line-length in
+    let more = room-more (line (a .kind) (a .tag .now)) (a .xs .now) (a .room) (l .left) (l .k) (w .result)
+    (c .before .before .before .loop-test .taken) (l .inv .1) (w .ensures .0) (c .if1 .left) in
+    (omega arith, more)
+
+returns-2 : tie.Need-returns-2 Inv-loop μ-loop
+returns-2 c =
+    let a = c .before .before .before .before .args in
+    let l = c .before .loop in
+    room-end (line (a .kind) (a .tag .now)) (a .xs .now) (a .room) (l .left) (l .k) (omega arith) (l .inv .1)
+
+pub room-u16-spec : {M : Type 1} → statement M
+room-u16-spec =
+    tie.close
+    (tie.spec
+    Inv-loop
+    μ-loop
+    loop-holds
+    mul-line-length
+    shared-slice-read-line-length
+    cast-line-length
+    line-length-requires
+    returns
+    add-k
+    loop-less
+    loop-again
+    returns-2)

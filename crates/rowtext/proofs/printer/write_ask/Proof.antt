@@ -1,0 +1,104 @@
+-- `rowtext::printer::write_ask` meets its contract: in a room for all of them the four lines are put one after the other. Assumes nothing.
+use native.Mathlib.Omega.{arith}
+use borrow.Author.Needs.{needs}
+use Prim.Native.Nat.{_+_, _≤_}
+use lib.ListN.{length}
+use Rattle.digits.proofs.Placing.{writes-off}
+use Rattle.rowtext.specs.Output.{askText}
+use Rattle.rowtext.proofs.Printing.{four-lines}
+use Rattle.rowtext.proofs.printer.write_ask.Statement.{statement}
+use Rattle.rowtext.proofs.printer.write_ask.Tie as tie
+
+-- past the tests there is room
+room : (p : tie.Else2) → let a = p .before .before .before .before .args in
+    a .i + length (askText (a .x) (a .call) (a .before) (a .probes)) ≤ length (a .out .now)
+room p = let n = p .before .ask-length .ensures in omega arith
+
+returns : tie.Need-returns
+returns c =
+    let a = c .before .before .args in
+    writes-off (askText (a .x) (a .call) (a .before) (a .probes)) (a .out .now) (a .i) (omega arith)
+
+sub-if2 : tie.Need-sub-if2
+sub-if2 c = search needs
+
+ask-length-requires : tie.Need-ask-length-requires
+ask-length-requires c κs = search needs
+
+returns-2 : tie.Need-returns-2
+returns-2 c =
+    let a = c .before .before .before .before .args in
+    let n = c .before .ask-length .ensures in
+    writes-off (askText (a .x) (a .call) (a .before) (a .probes)) (a .out .now) (a .i) (omega arith)
+
+slice-aggregate-write-line : tie.Need-slice-aggregate-write-line
+slice-aggregate-write-line c = search needs
+
+write-line-requires : tie.Need-write-line-requires
+write-line-requires c κs = search needs
+
+or-requires : tie.Need-or-requires
+or-requires c κs = search needs
+
+write-call-requires : tie.Need-write-call-requires
+write-call-requires c κs = search needs
+
+or-requires-2 : tie.Need-or-requires-2
+or-requires-2 c κs = search needs
+
+slice-aggregate-write-line-2 : tie.Need-slice-aggregate-write-line-2
+slice-aggregate-write-line-2 c = search needs
+
+write-line-requires-2 : tie.Need-write-line-requires-2
+write-line-requires-2 c κs = search needs
+
+or-requires-3 : tie.Need-or-requires-3
+or-requires-3 c κs = search needs
+
+slice-aggregate-write-line-3 : tie.Need-slice-aggregate-write-line-3
+slice-aggregate-write-line-3 c = search needs
+
+write-line-requires-3 : tie.Need-write-line-requires-3
+write-line-requires-3 c κs = search needs
+
+same-length : tie.Need-same-length
+same-length c = search needs
+
+returns-3 : tie.Need-returns-3
+returns-3 c =
+    let w4 = c .before .before in
+    let o3 = w4 .before .before .before in
+    let w3 = o3 .before .before .before in
+    let o2 = w3 .before .before .before in
+    let w2 = o2 .before .before .before in
+    let o1 = w2 .before .before in
+    let w1 = o1 .before .before .before in
+    let p = w1 .before .before .before in
+    let a = p .before .before .before .before .args in
+    four-lines (a .x) (a .call) (a .before) (a .probes)
+    (a .out .now) (w1 .write-line .last .0) (w2 .write-call .last .0) (w3 .write-line2 .last .0) (w4 .write-line3 .last .0)
+    (a .i) (o1 .or .result) (o2 .or2 .result) (o3 .or3 .result)
+    (w1 .write-line .result) (w2 .write-call .result) (w3 .write-line2 .result) (w4 .write-line3 .result) (room p)
+    (w1 .write-line .ensures) (o1 .or .ensures) (w2 .write-call .ensures) (o2 .or2 .ensures)
+    (w3 .write-line2 .ensures) (o3 .or3 .ensures) (w4 .write-line3 .ensures)
+
+pub write-ask-spec : {M : Type 1} → statement M
+write-ask-spec =
+    tie.close
+    (tie.spec
+    returns
+    sub-if2
+    ask-length-requires
+    returns-2
+    slice-aggregate-write-line
+    write-line-requires
+    or-requires
+    write-call-requires
+    or-requires-2
+    slice-aggregate-write-line-2
+    write-line-requires-2
+    or-requires-3
+    slice-aggregate-write-line-3
+    write-line-requires-3
+    same-length
+    returns-3)
