@@ -1,0 +1,42 @@
+// The words that the programs print.
+use crate::answer;
+use crate::table::Sample;
+use libc::STDOUT_FILENO;
+use refusals::Refusal;
+
+pub fn word(w: &[u8]) {
+    io::write_all(STDOUT_FILENO, w);
+}
+
+// A tag, and a number in decimal.
+pub fn number(tag: &[u8], v: u64) {
+    word(tag);
+    io::print_decimal(STDOUT_FILENO, v);
+}
+
+// A tag, and a number in 16 hexadecimal digits.
+pub fn hex(tag: &[u8], v: u64) {
+    word(tag);
+    io::print_hex(STDOUT_FILENO, v, 16);
+}
+
+pub fn refused(r: Refusal) {
+    number(b"refused=", answer::number(r));
+    number(b".", answer::named(r));
+}
+
+fn name(sample: Sample) {
+    match sample {
+        Sample::Sequential => word(b"sequential"),
+        Sample::Spread => word(b"spread"),
+        Sample::Clustered => word(b"clustered"),
+        Sample::Bits => word(b"bits"),
+    }
+}
+
+// How a line on a table begins.
+pub fn table(sample: Sample, n: usize) {
+    word(b"table=");
+    name(sample);
+    number(b" keys=", n as u64);
+}
