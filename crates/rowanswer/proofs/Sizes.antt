@@ -1,0 +1,66 @@
+-- How long a text that rowcheck prints can be: a head line, and 103 bytes for each ask. Assumes nothing.
+use mathlib.Core.Path.{_≡_, ap}
+use mathlib.Core.Bool.{Bool, true, false, cond}
+use mathlib.Core.List.{List, [], _∷_, _++_}
+use Prim.Native.Nat.{ℕ, suc, _+_, _*_, _^_, _≤_, _<_}
+use native.Mathlib.Nat.{mul-suc}
+use native.Mathlib.Omega.{arith}
+use lib.ListN.{length, length-append}
+use Rattle.tables.specs.Tables.{Table, smaller}
+use Rattle.neighbour.specs.Walk.{pathWalk}
+use Rattle.neighbour.specs.Ask.{standsAt}
+use Rattle.neighbour.proofs.Answering.{walk-six}
+use Rattle.neighbour.proofs.Deciding.{smaller-most}
+use Rattle.digits.specs.Texts.{bytes}
+use Rattle.lines.specs.Lines.{line, texts}
+use Rattle.lines.specs.declared.Kind.the-variants.{Decimal}
+use Rattle.rowtext.specs.Input.{Fine}
+use Rattle.rowtext.specs.Output.{headText, answersText}
+use Rattle.rowtext.specs.declared.Called.the-variants.{Row, Absent}
+use Rattle.rowtext.proofs.Printing.{Narrow, decimal-longest, ask-longest}
+use Rattle.rowanswer.specs.Answers.{probesOf, askLines, answered, TableText, bucketSize, falls, jams, answers, RowcheckText, badText, goodText, Longest}
+
+texts-longest : (f : ℕ → List ℕ) (most : ℕ) → ((x : ℕ) → length (f x) ≤ most) → (xs : List ℕ) → length (texts f xs) ≤ most * length xs
+unfolding texts
+texts-longest f most each [] = omega arith
+texts-longest f most each (x ∷ xs) =
+    let first = each x in
+    let rest = texts-longest f most each xs in
+    let more : most * suc (length xs) ≡ most * length xs + most = mul-suc most (length xs) in
+    omega (arith, length-append (f x) (texts f xs))
+
+narrow : (s : Bool) (c : ℕ) → c < 2 ^ 64 → Narrow (cond s (Row c) Absent)
+narrow true c h = h
+narrow false c h = tt
+
+few-probes : (keys : List ℕ) (x : ℕ) → probesOf keys x ≤ 6
+unfolding pathWalk
+few-probes keys x = walk-six keys x _ _ _
+
+module _ (keys : List ℕ) (t : Table keys) (few : length keys ≤ 2048) where
+  ask-most : (x : ℕ) → length (askLines keys x) ≤ 103
+  ask-most x =
+      let c : smaller keys x < 2 ^ 64 = omega (arith, smaller-most keys t x) in
+      let p : probesOf keys x < 2 ^ 64 = omega (arith, few-probes keys x) in
+      ask-longest x (cond (standsAt keys x (smaller keys x)) (Row (smaller keys x)) Absent) (smaller keys x) (probesOf keys x)
+      (narrow (standsAt keys x (smaller keys x)) (smaller keys x) c) c p
+
+  answered-longest : (asks : List ℕ) → length asks ≤ 512 → length (answered keys asks) ≤ 52762
+  unfolding answersText
+  answered-longest asks h =
+      let head : length (headText (length keys)) ≤ 5 + 21 = decimal-longest (bytes "keys=") (length keys) (omega arith) in
+      let lines = texts-longest (askLines keys) 103 ask-most asks in
+      omega (arith, length-append (headText (length keys)) (texts (askLines keys) asks))
+
+refused-longest : (text : List ℕ) (k : ℕ) → k < 2 ^ 64 → text ≡ line Decimal (bytes "refused=") k → length text ≤ 52762
+refused-longest text k h e = omega (arith, ap length e, decimal-longest (bytes "refused=") k h)
+
+table-longest : (keys : List ℕ) (b : ℕ) (asks text : List ℕ) → length keys ≤ 2048 → length asks ≤ 512 → TableText keys b asks text → length text ≤ 52762
+table-longest keys b asks text few some (bucketSize o e) = refused-longest text 2 (omega arith) e
+table-longest keys b asks text few some (falls h l f e) = refused-longest text 3 (omega arith) e
+table-longest keys b asks text few some (jams h l t j e) = refused-longest text 5 (omega arith) e
+table-longest keys b asks text few some (answers h l t s u v e) = omega (arith, ap length e, answered-longest keys t few asks some)
+
+pub rowcheck-longest : Longest
+rowcheck-longest input text (badText N e) = refused-longest text 8 (omega arith) e
+rowcheck-longest input text (goodText b keys asks F e T) = table-longest keys b asks text (F .keyCount) (F .askCount) T

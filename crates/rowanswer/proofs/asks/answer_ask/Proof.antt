@@ -1,0 +1,110 @@
+-- `rowanswer::asks::answer_ask` meets its contract: over stores that answer as the table says neither index refuses, and the lines written are the ask's.
+-- Assumes nothing.
+use borrow.Author.Needs.{needs}
+use mathlib.Core.Path.{_≡_, ap, sym}
+use Rattle.call.specs.Ask.{saidByCall}
+use Rattle.rowtext.specs.Output.{askText}
+use Rattle.rowtext.specs.declared.Called.{Called}
+use Rattle.rowtext.specs.declared.Called.the-variants.{Row, Absent}
+use Rattle.rowanswer.specs.Answers.{askLines}
+use Rattle.rowanswer.proofs.Asking.{saidOf, neighbour-refused, call-refused, ask-said}
+use Rattle.rowanswer.proofs.asks.answer_ask.Statement.{statement}
+use Rattle.rowanswer.proofs.asks.answer_ask.Tie as tie
+
+-- where the function began
+abbrev start : tie.After-neighbour-ask → tie.Start
+start p = p .before .before .before .before .before .before .before
+
+-- what is written of the answers is the ask's lines
+lines-said : (k : tie.After-call-ask) (call : Called) → saidOf call ≡ saidByCall (k .call-ask .result)
+    → let place = k .before .before .place .given .0 .0 in
+    let a = start (k .before .before .before .before) .args in
+    askLines (a .keys .now) (a .x) ≡ askText (a .x) call (place .before) (place .probes)
+lines-said k call e =
+    let found = k .before .before .place .given in
+    let p = k .before .before .before .before in
+    let a = start p .args in
+    ask-said (a .keys .now) (a .b) (a .seed) (a .cells .now) (a .handles .now) (a .left .now) (a .right .now) (start p .pre) (a .x)
+    (found .0 .0) call (rw (found .1) at (p .neighbour-ask .ensures)) (rw e (k .call-ask .ensures))
+
+neighbour-ask-requires : tie.Need-neighbour-ask-requires
+neighbour-ask-requires c κs = search needs
+
+enum-known-place : tie.Need-enum-known-place
+enum-known-place c = search needs
+
+enum-told : tie.Need-enum-told
+enum-told c = search needs
+
+returns : tie.Need-returns
+returns c =
+    let p = c .before .before in
+    let a = start p .args in
+    absurd
+    (neighbour-refused (a .keys .now) (a .b) (a .seed) (a .cells .now) (a .handles .now) (a .left .now) (a .right .now) (start p .pre) (a .x)
+    (c .enum-told .given .0 .0) (rw (c .enum-told .given .1) at (p .neighbour-ask .ensures)))
+
+call-ask-requires : tie.Need-call-ask-requires
+call-ask-requires c κs = search needs
+
+enum-known-row : tie.Need-enum-known-row
+enum-known-row c = search needs
+
+write-ask-requires : tie.Need-write-ask-requires
+write-ask-requires c κs = search needs
+
+enum-told-2 : tie.Need-enum-told-2
+enum-told-2 c = search needs
+
+write-ask-requires-2 : tie.Need-write-ask-requires-2
+write-ask-requires-2 c κs = search needs
+
+enum-told-3 : tie.Need-enum-told-3
+enum-told-3 c = search needs
+
+same-length : tie.Need-same-length
+same-length c = search needs
+
+returns-2 : tie.Need-returns-2
+returns-2 c =
+    let w = c .before .before in
+    let q = w .before .before .before in
+    rw (lines-said (q .before .before) (Row (q .row .given .0 .0)) (ap saidByCall (sym (q .row .given .1)))) (w .write-ask .ensures)
+
+same-length-2 : tie.Need-same-length-2
+same-length-2 c = search needs
+
+returns-3 : tie.Need-returns-3
+returns-3 c =
+    let w = c .before .before in
+    let q = w .before .before in
+    rw (lines-said (q .before .before) Absent (ap saidByCall (sym (q .enum-told2 .given .1)))) (w .write-ask2 .ensures)
+
+returns-4 : tie.Need-returns-4
+returns-4 c =
+    let k = c .before .before in
+    let p = k .before .before .before .before in
+    let a = start p .args in
+    absurd
+    (call-refused (a .keys .now) (a .b) (a .seed) (a .cells .now) (a .handles .now) (a .left .now) (a .right .now) (start p .pre) (a .x)
+    (c .enum-told3 .given .0 .0) (rw (c .enum-told3 .given .1) at (k .call-ask .ensures)))
+
+pub answer-ask-spec : {M : Type 1} → statement M
+answer-ask-spec =
+    tie.close
+    (tie.spec
+    neighbour-ask-requires
+    enum-known-place
+    enum-told
+    returns
+    call-ask-requires
+    enum-known-row
+    write-ask-requires
+    enum-told-2
+    write-ask-requires-2
+    enum-told-3
+    same-length
+    returns-2
+    same-length-2
+    returns-3
+    returns-4)

@@ -1,0 +1,133 @@
+-- `rowanswer::run::answer_read` meets its contract: what the reader took is answered, and what it refused is refusal 8. Assumes nothing.
+use mathlib.Core.Path.{_≡_, refl}
+use Prim.Native.Nat.{ℕ, min}
+use mathlib.Core.List.{List}
+use lib.ListN.{length}
+use native.Mathlib.Omega.{arith}
+use borrow.Author.Needs.{needs}
+use Rattle.rowtext.specs.Input.{Holds}
+use Rattle.rowanswer.proofs.Reading.{taken-holds, refused-none, start-within, start-long, keys-few, read-shows, refused-shows}
+use Rattle.rowanswer.proofs.run.answer_read.Statement.{statement}
+use Rattle.rowanswer.proofs.run.answer_read.Tie as tie
+
+-- the reader, once it has taken the input
+abbrev read : tie.After-known-told → tie.After-read-input
+read k = k .before .before .before .before .before .before .before
+
+abbrev start : tie.After-known-told → tie.Start
+start k = k .before .before .before .before .before .before .before .before .before .before .before .before .before .before
+
+abbrev bucket : tie.After-known-told → ℕ
+bucket k = k .before .bucket .given .0 .0
+
+abbrev rows : tie.After-known-told → ℕ
+rows k = k .before .bucket .given .0 .1 .0
+
+abbrev lines : tie.After-known-told → ℕ
+lines k = k .before .bucket .given .0 .1 .1 .0
+
+abbrev keys′ : tie.After-known-told → List ℕ
+keys′ k = read k .read-input .last .1 .0
+
+abbrev asks′ : tie.After-known-told → List ℕ
+asks′ k = read k .read-input .last .1 .1 .0
+
+holds : (k : tie.After-known-told)
+    → Holds (min (length (start k .args .keys .now)) 2048) (min (length (start k .args .asks .now)) 512) (start k .args .input .now) (bucket k) (rows k) (lines k)
+    (start k .args .keys .now) (start k .args .asks .now) (keys′ k) (asks′ k)
+holds k =
+    taken-holds (start k .args .input .now) (start k .args .keys .now) (start k .args .asks .now) (keys′ k) (asks′ k) (read k .read-input .result) (bucket k) (rows k) (lines k)
+    (k .before .bucket .given .1) (read k .read-input .ensures)
+
+read-input-requires : tie.Need-read-input-requires
+read-input-requires c κs = search needs
+
+enum-known-bucket : tie.Need-enum-known-bucket
+enum-known-bucket c = search needs
+
+slice-reshare-prefix-answer-table : tie.Need-slice-reshare-prefix-answer-table
+slice-reshare-prefix-answer-table c =
+    let H = holds c in start-within (rows c) (H .ks) (start c .args .keys .now) (keys′ c) (H .keyCount) (H .keysHold)
+
+slice-aggregate-answer-table : tie.Need-slice-aggregate-answer-table
+slice-aggregate-answer-table c =
+    let k = c .before in
+    let H = holds k in start-long (rows k) (H .ks) (start k .args .keys .now) (keys′ k) (H .keyCount) (H .keysHold)
+
+slice-reshare-prefix-answer-table-2 : tie.Need-slice-reshare-prefix-answer-table-2
+slice-reshare-prefix-answer-table-2 c =
+    let k = c .before in
+    let H = holds k in start-within (lines k) (H .qs) (start k .args .asks .now) (asks′ k) (H .askCount) (H .asksHold)
+
+slice-aggregate-answer-table-2 : tie.Need-slice-aggregate-answer-table-2
+slice-aggregate-answer-table-2 c =
+    let k = c .before .before in
+    let H = holds k in start-long (lines k) (H .qs) (start k .args .asks .now) (asks′ k) (H .askCount) (H .asksHold)
+
+answer-table-requires : tie.Need-answer-table-requires
+answer-table-requires c κs =
+    let k = c .before .before .before in
+    keys-few (start k .args .input .now) (start k .args .keys .now) (start k .args .asks .now) (keys′ k) (asks′ k) (start k .pre .0) (start k .pre .1) (bucket k) (rows k) (lines k) (holds k)
+
+enum-told : tie.Need-enum-told
+enum-told c = search needs
+
+refuse-requires : tie.Need-refuse-requires
+refuse-requires c κs = search needs
+
+same-length : tie.Need-same-length
+same-length c = search needs
+
+same-length-2 : tie.Need-same-length-2
+same-length-2 c = search needs
+
+same-length-3 : tie.Need-same-length-3
+same-length-3 c = search needs
+
+returns : tie.Need-returns
+returns c =
+    let t = c .before .before in
+    let k = t .before .before .before .before in
+    read-shows (start k .args .input .now) (start k .args .keys .now) (start k .args .asks .now) (keys′ k) (asks′ k) (start k .pre .0) (start k .pre .1) (bucket k) (rows k) (lines k) (holds k)
+    (start k .args .out .now) (t .answer-table .result) (t .answer-table .last .1 .1 .1 .0) (t .answer-table .ensures)
+
+same-length-4 : tie.Need-same-length-4
+same-length-4 c = search needs
+
+same-length-5 : tie.Need-same-length-5
+same-length-5 c = search needs
+
+same-length-6 : tie.Need-same-length-6
+same-length-6 c = search needs
+
+returns-2 : tie.Need-returns-2
+returns-2 c =
+    let r = c .before .before .before .before .before .before .before .before .before .before in
+    let s = r .before .before .before .before .before .before .before in
+    let N =
+    refused-none (s .args .input .now) (s .args .keys .now) (s .args .asks .now) (r .read-input .last .1 .0) (r .read-input .last .1 .1 .0) (r .read-input .result) _
+    (c .before .before .before .before .enum-told .given .1) (r .read-input .ensures) in
+    refused-shows (s .args .input .now) (s .args .keys .now) (s .args .asks .now) (r .read-input .last .1 .0) (r .read-input .last .1 .1 .0) (s .pre .0) (s .pre .1)
+    N (s .args .out .now) (c .before .before .refuse .result) (c .before .before .refuse .last .0) (c .before .before .refuse .ensures)
+
+pub answer-read-spec : {M : Type 1} → statement M
+answer-read-spec =
+    tie.close
+    (tie.spec
+    read-input-requires
+    enum-known-bucket
+    slice-reshare-prefix-answer-table
+    slice-aggregate-answer-table
+    slice-reshare-prefix-answer-table-2
+    slice-aggregate-answer-table-2
+    answer-table-requires
+    enum-told
+    refuse-requires
+    same-length
+    same-length-2
+    same-length-3
+    returns
+    same-length-4
+    same-length-5
+    same-length-6
+    returns-2)

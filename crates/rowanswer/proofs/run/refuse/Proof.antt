@@ -1,0 +1,26 @@
+-- `rowanswer::run::refuse` meets its contract: it writes the refusal's line at the start. Assumes nothing.
+use mathlib.Core.Path.{_≡_}
+use borrow.Author.Needs.{needs}
+use Rattle.rowtext.specs.Output.{refusalText}
+use Rattle.rowanswer.proofs.Showing.{writes-shown}
+use Rattle.rowanswer.proofs.run.refuse.Statement.{statement}
+use Rattle.rowanswer.proofs.run.refuse.Tie as tie
+
+write-refusal-requires : tie.Need-write-refusal-requires
+write-refusal-requires c κs = search needs
+
+or-requires : tie.Need-or-requires
+or-requires c κs = search needs
+
+same-length : tie.Need-same-length
+same-length c = search needs
+
+returns : tie.Need-returns
+returns c =
+    let w = c .before .before .before in
+    let s = w .before .before .before in
+    writes-shown (refusalText (s .args .refusal)) (s .args .out .now) (w .write-refusal .last .0) (w .write-refusal .result) (c .or .result)
+    (w .write-refusal .kept .0) (w .write-refusal .ensures) (c .or .ensures)
+
+pub refuse-spec : {M : Type 1} → statement M
+refuse-spec = tie.close (tie.spec write-refusal-requires or-requires same-length returns)
