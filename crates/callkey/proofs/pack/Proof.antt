@@ -6,54 +6,41 @@ use borrow.Author.Tests.{lt-ltb, le-ltb}
 use Rattle.callkey.specs.CallKeys.{key, packSays}
 use Rattle.callkey.proofs.pack.Statement.{statement}
 use Rattle.callkey.proofs.pack.Tie as tie
-use Rattle.callkey.proofs.pack.Reads as reads
-use Rattle.callkey.proofs.pack.Lts as lts
 
--- src/lib.rt:31:9
 returns : tie.Need-returns
 unfolding packSays
 returns c = search (needs, lt-ltb, le-ltb)
 
--- src/lib.rt:34:9
 returns-2 : tie.Need-returns-2
 unfolding packSays
 returns-2 c = search (needs, lt-ltb, le-ltb)
 
--- src/lib.rt:37:9
 returns-3 : tie.Need-returns-3
 unfolding packSays
 returns-3 c = search (needs, lt-ltb, le-ltb)
 
--- src/lib.rt:40:9
 returns-4 : tie.Need-returns-4
 unfolding packSays
 returns-4 c = search (needs, lt-ltb, le-ltb)
 
--- src/lib.rt:42:15
 mul-top : tie.Need-mul-top
 mul-top c = search needs
 
--- src/lib.rt:42:51
 mul-top-2 : tie.Need-mul-top-2
 mul-top-2 c = search needs
 
--- src/lib.rt:42:15
 add-top : tie.Need-add-top
 add-top c = search needs
 
--- src/lib.rt:43:23
 mul-t14 : tie.Need-mul-t14
 mul-t14 c = search needs
 
--- src/lib.rt:43:17
 add-t13 : tie.Need-add-t13
 add-t13 c = search needs
 
--- src/lib.rt:43:17
 add-t15 : tie.Need-add-t15
 add-t15 c = search needs
 
--- src/lib.rt:27:1
 returns-5 : tie.Need-returns-5
 unfolding packSays
 returns-5 c =

@@ -5,31 +5,23 @@ use borrow.Author.Tests.{lt-ltb, le-ltb}
 use Rattle.callkey.specs.CallKeys.{unpackSays}
 use Rattle.callkey.proofs.unpack.Statement.{statement}
 use Rattle.callkey.proofs.unpack.Tie as tie
-use Rattle.callkey.proofs.unpack.Reads as reads
-use Rattle.callkey.proofs.unpack.Lts as lts
 
--- src/lib.rt:57:9
 returns : tie.Need-returns
 unfolding unpackSays
 returns c = search (needs, lt-ltb, le-ltb)
 
--- src/lib.rt:60:14
 cast-t10 : tie.Need-cast-t10
 cast-t10 c = search needs
 
--- src/lib.rt:61:15
 cast-t11 : tie.Need-cast-t11
 cast-t11 c = search needs
 
--- src/lib.rt:62:17
 cast-t12 : tie.Need-cast-t12
 cast-t12 c = search needs
 
--- src/lib.rt:63:16
 cast-t13 : tie.Need-cast-t13
 cast-t13 c = search needs
 
--- src/lib.rt:47:1
 returns-2 : tie.Need-returns-2
 unfolding unpackSays
 returns-2 c = simp (le-ltb _ _ (c .if1 .left), div-one)
