@@ -71,3 +71,7 @@ Shows P before r after = (text : List ℕ) × (P text × Shown text before r aft
 -- no text that rowcheck prints is longer than this, so 65,536 bytes are room for each
 abbrev pub Longest : Type 0
 Longest = (input text : List ℕ) → RowcheckText input text → length text ≤ 52762
+
+-- an input has one text that is printed of it
+abbrev pub OneText : Type 0
+OneText = (input text text′ : List ℕ) → RowcheckText input text → RowcheckText input text′ → text ≡ text′
