@@ -28,7 +28,7 @@ use Rattle.neighbour.specs.Ask.{place, standsAt, handleCount, neighbourSays}
 use Rattle.neighbour.proofs.Asking.{stands-iff, path-probes, stored-says, sizes-pass, ask-six}
 use Rattle.neighbour.proofs.Answering.{stored-walk}
 use Rattle.neighbour.proofs.Deciding.{smaller-low, smaller-high, smaller-most}
-use Rattle.index.specs.Demands.{Words, NotIn, CallRefusesJams, NeighbourRefusesJams, PlannedGetsItsRow, RowsAreSorted, OthersAreAbsent, Monotone, Searched, SearchIsExact, SixAtMost}
+use Rattle.index.specs.Demands.{Words, NotIn, CallRefusesJams, NeighbourRefusesJams, PlannedGetsItsRow, RowsAreSorted, OthersAreAbsent, OneKeyForEachRow, Monotone, Searched, SearchIsExact, SixAtMost}
 use Rattle.index.proofs.Accepted.{CallAccepted, call-accepted, accepted-sorted, accepted-askable, NeighbourAccepted, neighbour-accepted}
 
 never : {A : Type 0} {said : BuildSaid} {k i l j : ℕ} → said ≡ refused k i → said ≡ refused l j → (i ≡ j → ⊥) → A
@@ -116,6 +116,9 @@ rows-are-sorted keys b s t cells work cells′ work′ w B = sorted keys b s t c
 
 pub others-are-absent : OthersAreAbsent
 others-are-absent keys b s t cells work cells′ work′ B x h none = others keys b s t cells work cells′ work′ B x none
+
+pub one-key-for-each-row : OneKeyForEachRow
+one-key-for-each-row keys b s t cells work cells′ work′ B = said-row keys b s t cells work cells′ work′ B
 
 pub monotone : Monotone
 monotone keys b s t cells work cells′ work′ w B x y i j e f =

@@ -63,6 +63,12 @@ OthersAreAbsent =
     → CallBuilt keys b seed₁ seed₂ cells work taken cells′ work′
     → (x : ℕ) → x < 2 ^ 64 → NotIn x keys → callSays keys b seed₁ seed₂ cells′ x ≡ absent
 
+-- so rows and planned keys correspond one to one: a row is answered only for the one key that stands there
+abbrev pub OneKeyForEachRow : Type 0
+OneKeyForEachRow =
+    (keys : List ℕ) (b seed₁ seed₂ : ℕ) (cells work cells′ work′ : List ℕ) → CallBuilt keys b seed₁ seed₂ cells work taken cells′ work′
+    → (x i : ℕ) → callSays keys b seed₁ seed₂ cells′ x ≡ row i → (i < length keys) × (keyAt keys i ≡ x)
+
 -- monotone hashing, as Belazzougui, Boldi, Pagh and Vigna define it: the rows of the planned keys keep their order
 abbrev pub Monotone : Type 0
 Monotone =
