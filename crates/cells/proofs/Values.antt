@@ -9,10 +9,14 @@ use lib.Seq.{getD-take}
 use Rattle.words.specs.Mix.{itemHash}
 use Rattle.cells.specs.Cells.{segment, cellCount, cellOf, valueAt, mapValue}
 
+-- a place in one of three segments of m cells is one of their cells
+in-segment : (m j x : ℕ) → 0 < m → j ≤ 2 → j * m + x % m < 3 * m
+in-segment m j x some few = omega (arith, mul-le-mul-right m few, mod-lt x some)
+
 -- each of the three cells is one of the map's
 pub cell-below : (m j h : ℕ) → 0 < m → j ≤ 2 → cellOf m j h < 3 * m
 unfolding cellOf
-cell-below m j h some few = omega (arith, mul-le-mul-right m few, mod-lt (h / 2 ^ (21 * j)) some)
+cell-below m j h some few = in-segment m j _ some few
 
 -- so the map's own cells decide the value of every item
 pub value-take : (cells : List ℕ) (t seed x : ℕ) → mapValue (take (cellCount t) cells) t seed x ≡ mapValue cells t seed x

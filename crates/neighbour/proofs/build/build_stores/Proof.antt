@@ -72,7 +72,7 @@ returns c =
     stores-jammed (delimiters (s .args .b) (s .args .keys .now)) (s .args .seed3) (s .args .handles .now) (s .args .left .now) (s .args .right .now) (s .args .work .now)
     (m .build .last .1 .1 .1 .1 .1 .0) (m .build .last .1 .1 .1 .1 .1 .1 .0) (m .build .result) (m .build .ensures) (t .if1 .taken)
     (e .build-bounds .last .1 .1 .0) (e .build-bounds .last .1 .1 .1 .0) (c .before .before .before .before .before .before .clear .last .0) (c .before .before .clear2 .last .0)
-    (e .build-bounds .ensures .0) (e .build-bounds .ensures .1) (rw d at (c .before .before .before .before .before .before .clear .ensures)) (rw d at (c .before .before .clear2 .ensures))
+    (e .build-bounds .ensures .0) (e .build-bounds .ensures .1) (c .before .before .before .before .before .before .clear .ensures ∙ ap (λ (n : ℕ). cleared n (e .build-bounds .last .1 .1 .0)) d) (c .before .before .clear2 .ensures ∙ ap (λ (n : ℕ). cleared n (e .build-bounds .last .1 .1 .1 .0)) d)
 
 same-length-5 : tie.Need-same-length-5
 same-length-5 c = search needs
