@@ -1,12 +1,16 @@
 // The cells of a static map (document 01, "Static maps"): how many there are for t items, the three that an item touches, and
 // the value that they give it.
 //
-// Every function is proved and the crate assumes nothing. Each `requires` is a size that the callers have tested.
+// Every function is proved and the crate assumes nothing. Each `requires` is a size that the callers have tested, or its reciprocal.
 ghost use mathlib.Core.Path.{_≡_};
 ghost use Prim.Native.Nat.{_*_, _≤_, _<_};
 ghost use lib.ListN.{length};
+ghost use Rattle.words.specs.Reciprocals.{Reciprocal};
 ghost use Rattle.cells.specs.Cells.{segment, cellCount, cellOf, Segment, valueAt, mapValue};
 ghost use Rattle.cells.specs.Memory.{cleared};
+use words::remainder::reciprocal;
+use words::remainder::remainder;
+use words::remainder::small_remainder;
 
 // M, the cells of one of the three segments of a map of t items.
 pub fn segment_size(t: usize) -> usize
@@ -24,12 +28,36 @@ pub fn cell_count(t: usize) -> usize
     3 * segment_size(t)
 }
 
+// The cell that the hash h touches in segment j, of m cells each, from the reciprocal r of m: a map has one, and needs no division for
+// each of its items.
+pub fn cell_from(h: u64, m: usize, r: u64, j: usize) -> usize
+    requires { ⌜ Segment m × Reciprocal m r × (j < 3) ⌝ }
+    ensures { λ c. ⌜ (c ≡ cellOf m j h) × (c < 3 * m) ⌝ }
+{
+    let n = m as u64;
+    if j == 0 {
+        return remainder(h, n, r) as usize;
+    }
+    j * m + small_remainder(h >> (21 * j), n, r) as usize
+}
+
 // The cell that the hash h touches in segment j, of m cells each.
 pub fn cell_of(h: u64, m: usize, j: usize) -> usize
     requires { ⌜ Segment m × (j < 3) ⌝ }
     ensures { λ r. ⌜ (r ≡ cellOf m j h) × (r < 3 * m) ⌝ }
 {
-    j * m + (h >> (21 * j)) as usize % m
+    cell_from(h, m, reciprocal(m as u64), j)
+}
+
+// The value of the hash h, the xor of its three cells, from the reciprocal r of m.
+pub fn value_from(cells: &[u16], m: usize, r: u64, h: u64) -> u16
+    requires { ⌜ Segment m × Reciprocal m r × (3 * m ≤ length (now cells)) ⌝ }
+    ensures { λ v. ⌜ v ≡ valueAt m (now (cells .entry)) h ⌝ }
+{
+    let a = cell_from(h, m, r, 0);
+    let b = cell_from(h, m, r, 1);
+    let c = cell_from(h, m, r, 2);
+    cells[a] ^ cells[b] ^ cells[c]
 }
 
 // The value of the hash h: the xor of its three cells.
@@ -37,10 +65,7 @@ pub fn value_of(cells: &[u16], m: usize, h: u64) -> u16
     requires { ⌜ Segment m × (3 * m ≤ length (now cells)) ⌝ }
     ensures { λ r. ⌜ r ≡ valueAt m (now (cells .entry)) h ⌝ }
 {
-    let a = cell_of(h, m, 0);
-    let b = cell_of(h, m, 1);
-    let c = cell_of(h, m, 2);
-    cells[a] ^ cells[b] ^ cells[c]
+    value_from(cells, m, reciprocal(m as u64), h)
 }
 
 // What a map of t items says of any item. The cells may be a part that begins in the middle of a store.

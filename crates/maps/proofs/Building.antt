@@ -1,5 +1,5 @@
 -- From the last turn to what a build leaves.
---     stuck-largest    no cell has one item left: those left are the largest jam
+--     stuck-largest    all turns taken, and no cell has one item left: those left are the largest jam
 --     built            what `build` has done is what it promises
 -- Assumes nothing.
 use mathlib.Core.Path.{_≡_, ap, _∙_}
@@ -9,6 +9,7 @@ use Prim.Native.Nat.{ℕ, _+_, _-_, _*_, _≤_, _<_}
 use native.Mathlib.Omega.{arith}
 use lib.ListN.{length, getD}
 use Rattle.words.specs.Mix.{itemHash}
+use Rattle.words.specs.Inner.{mixedSeed}
 use Rattle.cells.specs.Cells.{segment, cellCount, Segment, valueAt}
 use Rattle.cells.specs.Memory.{cleared}
 use Rattle.items.specs.Items.{itemsOf, valuesOf}
@@ -16,24 +17,25 @@ use Rattle.maps.specs.declared.Map.{Map}
 use Rattle.maps.specs.Jam.{Touches, touch, Largest, sizeOf}
 use Rattle.maps.specs.Built.{workCount, Room, Filled, Built, MapBuilt}
 use Rattle.maps.specs.Inner.Peel.{touchb, live, still}
-use Rattle.maps.specs.Inner.Work.{Peeled, Stuck, Beyond, xorOf, turnItem, turnCell}
+use Rattle.maps.specs.Inner.Work.{Peeled, AllSeen, Beyond, xorOf, turnItem, turnCell}
 use Rattle.maps.specs.Inner.Fill.{valueOf, Valued, Clean}
-use Rattle.maps.specs.Inner.Ready.{Ready, PeeledOut, FilledAll}
+use Rattle.maps.specs.Inner.Ready.{Ready, Queued, FilledAll}
 use Rattle.maps.proofs.Sets.{size-one, One}
 use Rattle.maps.proofs.Jams.{and-right, touched, rest-largest, all-peeled}
 use Rattle.maps.proofs.Puts.{spread, touch-below}
+use Rattle.maps.proofs.Peeling.{seen-stuck}
 use Rattle.maps.proofs.Clearing.{drop-cleared, drop-same, cleared-same}
 
-pub stuck-largest : {e : ℕ → ℕ → ℕ} {t cap n : ℕ} {w : List ℕ} → ((i c : ℕ) → Touches e i c → c < cap) → Peeled e t cap w n → Stuck cap w
-    → (n ≡ t → ⊥) → Largest e t (live (turnItem cap w) n)
+pub stuck-largest : {e : ℕ → ℕ → ℕ} {t cap n : ℕ} {w : List ℕ} → ((i c : ℕ) → Touches e i c → c < cap) → Peeled e t cap w n n
+    → AllSeen cap w → (n ≡ t → ⊥) → Largest e t (live (turnItem cap t w) n)
 stuck-largest {e} {t} {cap} {n} {w} below P S h =
-    rest-largest e t (turnItem cap w) (turnCell cap t w) n (P .order) h
+    rest-largest e t (turnItem cap t w) (turnCell cap t w) n (P .order) h
     (λ c z.
-    let st = turnItem cap w in
+    let st = turnItem cap t w in
     let i = xorOf (still e st n c) t in
     let o : One (still e st n c) t i = size-one (still e st n c) t z in
     let l : c < cap = below i c (touched e i c (and-right (live st n i) (touchb e i c) (o .passes))) in
-    S c l (P .holds .count c l ∙ z))
+    seen-stuck P S c l (P .holds .count c l ∙ z))
 
 module _ (seed : ℕ) (items values : List ℕ) where
   abbrev e : ℕ → ℕ → ℕ
@@ -43,24 +45,24 @@ module _ (seed : ℕ) (items values : List ℕ) where
   t = length items
 
   -- cells and work are a and u before and b and v after; w is the work when no more can be peeled
-  module _ {a b u w v : List ℕ} {n : ℕ} (P : Peeled e t (cellCount t) w n) (sw : v ≡ cleared (workCount t) u) where
+  module _ {a b u w v : List ℕ} {n : ℕ} (P : Peeled e t (cellCount t) w n n) (sw : v ≡ cleared (workCount t) u) where
     built-filled : n ≡ t → Filled seed items values a b → Built seed items values a u (t - n) b v
     built-filled q F =
         record {
-          accepted = λ o. (all-peeled e t (turnItem (cellCount t) w) (turnCell (cellCount t) t w) n (P .order) q, F);
+          accepted = λ o. (all-peeled e t (turnItem (cellCount t) t w) (turnCell (cellCount t) t w) n (P .order) q, F);
           refused = λ o. absurd (omega arith);
           swept = sw;
         }
 
-    built-jammed : Segment (segment t) → (n ≡ t → ⊥) → Stuck (cellCount t) w → b ≡ cleared (cellCount t) a → Built seed items values a u (t - n) b v
-    built-jammed S q stuck same =
-        let left : sizeOf (live (turnItem (cellCount t) w) n) t + n ≡ t = P .order .left in
+    built-jammed : Segment (segment t) → (n ≡ t → ⊥) → AllSeen (cellCount t) w → b ≡ cleared (cellCount t) a → Built seed items values a u (t - n) b v
+    built-jammed S q seen same =
+        let left : sizeOf (live (turnItem (cellCount t) t w) n) t + n ≡ t = P .order .left in
         record {
           accepted = λ o. absurd (q (omega arith));
           refused = λ o. (
             (
-              live (turnItem (cellCount t) w) n,
-              stuck-largest (λ i c h. touch-below c (spread (segment t) (λ k. itemHash (getD items k 0) seed) i S) h) P stuck q,
+              live (turnItem (cellCount t) t w) n,
+              stuck-largest (λ i c h. touch-below c (spread (segment t) (λ k. itemHash (getD items k 0) seed) i S) h) P seen q,
               omega arith,
             ),
             same,
@@ -92,17 +94,17 @@ pub room-work : {map : Map} {keys left right cells work : List ℕ} → Ready ma
     → 6 * map .m + 2 * map .t ≤ length work
 room-work {map} {keys} R room = rw (work-size (map .m) (map .t) (length (itemsOf (map .which) keys)) (R .size) (R .all)) (room .forWork)
 
-pub built : {map : Map} {keys left right : List ℕ} {a a₁ b u w v : List ℕ} {n : ℕ} → a₁ ≡ cleared (3 * map .m) a → length a₁ ≡ length a
-    → PeeledOut map keys left right u w n → length w ≡ length u → v ≡ cleared (6 * map .m + 2 * map .t) w → Ended map keys n a₁ b
-    → MapBuilt (map .which) (map .seed) keys a u (map .t - n) b v
+pub built : {map : Map} {keys left right : List ℕ} {a a₁ b u w v : List ℕ} {n : ℕ} (seed : ℕ) → map .mixed ≡ mixedSeed seed → a₁ ≡ cleared (3 * map .m) a → length a₁ ≡ length a
+    → Queued map keys left right u w n n → length w ≡ length u → v ≡ cleared (6 * map .m + 2 * map .t) w → Ended map keys n a₁ b
+    → MapBuilt (map .which) seed keys a u (map .t - n) b v
 unfolding Valued Clean valueOf valueAt
-built {map} {keys} {a = a} {a₁} {b} {u} {w} {v} {n} z l O lw y E =
+built {map} {keys} {a = a} {a₁} {b} {u} {w} {v} {n} seed es z l O lw y E =
     let items : List ℕ = itemsOf (map .which) keys in
     let values : List ℕ = valuesOf (map .which) keys in
     let em : map .m ≡ segment (map .t) = O .turn .ready .size in
     let et : map .t ≡ length items = O .turn .ready .all in
     let z′ : a₁ ≡ cleared (cellCount (length items)) a = rw (em, et) at z in
-    let P : Peeled (touch (map .seed) items) (length items) (cellCount (length items)) w n = rw (em, et) at (O .turn .peeled) in
+    let P : Peeled (touch seed items) (length items) (cellCount (length items)) w n n = rw (es, em, et) at (O .turn .peeled) in
     let sw : v ≡ cleared (workCount (length items)) u =
     y ∙ cleared-same (6 * map .m + 2 * map .t) u w lw (O .beyond) ∙ ap (λ (k : ℕ). cleared k u) (work-size (map .m) (map .t) (length items) em et) in
     rw et
@@ -110,13 +112,13 @@ built {map} {keys} {a = a} {a₁} {b} {u} {w} {v} {n} z l O lw y E =
     (λ h.
     let F : FilledAll map keys a₁ b = h .1 in
     let B : Beyond (cellCount (length items)) a₁ b = rw (em, et) at (F .beyond) in
-    built-filled (map .seed) items values P sw (rw et at (h .0))
+    built-filled seed items values P sw (rw et at (h .0))
     (record {
-      valued = rw (em, et) at (F .valued);
-      untouched = rw (em, et) at (F .clean);
+      valued = rw (es, em, et) at (F .valued);
+      untouched = rw (es, em, et) at (F .clean);
       beyond = drop-same (cellCount (length items)) a₁ b (E .long) B ∙ rw z′ (drop-cleared (cellCount (length items)) a);
       long = E .long ∙ l;
     }))
     (λ h.
-    built-jammed (map .seed) items values P sw (rw (em, et) at (O .turn .ready .fits)) (rw et at (h .0)) (rw (em, et) at (O .stuck)) (h .1 ∙ z′))
+    built-jammed seed items values P sw (rw (em, et) at (O .turn .ready .fits)) (rw et at (h .0)) (rw (em, et) at (O .seen)) (h .1 ∙ z′))
     (E .how))

@@ -19,6 +19,9 @@ cleared-blank m xs e l h =
           ∙ getD-replicate m k 0 0 lt;
     }
 
+pub blank-less : {m n : ℕ} {xs : List ℕ} → m ≤ n → Blank n xs → Blank m xs
+blank-less l B = record { long = omega (arith, B .long); zeros = λ k h. B .zeros k (omega arith) }
+
 pub drop-cleared : (m : ℕ) (xs : List ℕ) → drop m (cleared m xs) ≡ drop m xs
 drop-cleared m xs = drop-at (replicate m 0) (drop m xs) m (length-replicate m 0)
 

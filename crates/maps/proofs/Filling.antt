@@ -69,21 +69,21 @@ value-there e cells j c v h =
     (getD-set-other cells c (e 2 j) v 0 (λ z. h (inr (inr z))))
 
 -- the store of `fill_turn`: i and c are the turn's item and cell as they were read, h its hash, v its value before and y the wanted one
-pub store-fixes : (map : Map) (keys w b : List ℕ) (p i c h v y : ℕ) → i ≡ turnItem (3 * map .m) w p → c ≡ turnCell (3 * map .m) (map .t) w p
+pub store-fixes : (map : Map) (keys w b : List ℕ) (p i c h v y : ℕ) → i ≡ turnItem (3 * map .m) (map .t) w p → c ≡ turnCell (3 * map .m) (map .t) w p
     → h ≡ hashOf map keys i → v ≡ valueAt (map .m) b h → y ≡ wanted map keys i → set b c (bitXor (bitXor (getD b c 0) y) v) ≡ fixed map keys w b p
 unfolding valueOf valueAt
 store-fixes map keys w b p i c h v y ei ec eh ev ey = rw (ev, ey, eh, ec, ei)
 
 -- what the loop of `fill_all` keeps: the items of the turns from p on have their values, and only cells that items touch have changed
 pub record FilledFrom (map : Map) (keys w : List ℕ) (p : ℕ) (a b : List ℕ) : Type 0 where
-  pub valued : (q : ℕ) → p ≤ q → q < map .t → valueOf (graph map keys) b (turnItem (3 * map .m) w q) ≡ wanted map keys (turnItem (3 * map .m) w q)
+  pub valued : (q : ℕ) → p ≤ q → q < map .t → valueOf (graph map keys) b (turnItem (3 * map .m) (map .t) w q) ≡ wanted map keys (turnItem (3 * map .m) (map .t) w q)
   pub clean : Clean (graph map keys) (map .t) (3 * map .m) b
   pub beyond : Beyond (3 * map .m) a b
 
 -- all items are peeled
-module _ {map : Map} {keys left right w : List ℕ} (A : AtTurn map keys left right w (map .t)) where
+module _ {map : Map} {keys left right w : List ℕ} (A : AtTurn map keys left right w (map .t) (map .t)) where
   abbrev Items : ℕ → ℕ
-  Items = turnItem (3 * map .m) w
+  Items = turnItem (3 * map .m) (map .t) w
 
   abbrev Cells : ℕ → ℕ
   Cells = turnCell (3 * map .m) (map .t) w

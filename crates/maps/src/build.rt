@@ -22,7 +22,15 @@ pub fn build(
 {
     let t = items::item_count(which, keys, left, right);
     let m = cells::segment_size(t);
-    let map = Map { which, seed, m, t };
+    let mixed = words::hash::mix_seed(seed);
+    let r = words::remainder::reciprocal(m as u64);
+    let map = Map {
+        which,
+        mixed,
+        m,
+        r,
+        t,
+    };
     cells::clear(cells, 3 * m);
     let n = peel::peel_all(map, keys, left, right, work);
     if n == t {

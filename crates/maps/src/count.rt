@@ -15,7 +15,7 @@ pub fn hash_at(map: Map, keys: &[u64], left: &[u16], right: &[u16], i: usize) ->
     ensures { λ r. ⌜ r ≡ hashOf map (now (keys .entry)) i ⌝ }
 {
     let which = map.which;
-    words::hash::item_hash(items::item_at(which, keys, left, right, i), map.seed)
+    words::hash::mixed_hash(items::item_at(which, keys, left, right, i), map.mixed)
 }
 
 // The cells that item i touches.
@@ -24,11 +24,12 @@ pub fn cells_at(map: Map, keys: &[u64], left: &[u16], right: &[u16], i: usize) -
     ensures { λ r. ⌜ CellsAt (graph map (now (keys .entry))) (3 * map .m) i r ⌝ }
 {
     let m = map.m;
+    let r = map.r;
     let h = hash_at(map, keys, left, right, i);
     Touched {
-        first: cells::cell_of(h, m, 0),
-        second: cells::cell_of(h, m, 1),
-        third: cells::cell_of(h, m, 2),
+        first: cells::cell_from(h, m, r, 0),
+        second: cells::cell_from(h, m, r, 1),
+        third: cells::cell_from(h, m, r, 2),
     }
 }
 

@@ -17,17 +17,18 @@ fn fill_turn(
     work: &[u16],
     p: usize,
 )
-    requires { ⌜ AtTurn map (now keys) (now left) (now right) (now work) (map .t) × (3 * map .m ≤ length (now cells)) × (p < map .t) ⌝ }
+    requires { ⌜ AtTurn map (now keys) (now left) (now right) (now work) (map .t) (map .t) × (3 * map .m ≤ length (now cells)) × (p < map .t) ⌝ }
     ensures { λ _. ⌜ now (cells .exit) ≡ fixed map (now (keys .entry)) (now (work .entry)) (now (cells .entry)) p ⌝ }
 {
     let which = map.which;
     let m = map.m;
     let t = map.t;
-    let x = 6 * m + p;
-    let y = x + t;
+    let cap = 3 * m;
+    let x = cap + cap + t + p;
     let i = work[x] as usize;
-    let c = work[y] as usize;
-    let value = cells::value_of(cells, m, count::hash_at(map, keys, left, right, i));
+    let y = cap + cap + i;
+    let c = work[y] as usize - 1;
+    let value = cells::value_from(cells, m, map.r, count::hash_at(map, keys, left, right, i));
     cells[c] = cells[c] ^ items::value_at(which, keys, left, right, i) ^ value;
 }
 
@@ -40,7 +41,7 @@ pub fn fill_all(
     cells: &mut [u16],
     work: &[u16],
 )
-    requires { ⌜ AtTurn map (now keys) (now left) (now right) (now work) (map .t) × Blank (3 * map .m) (now cells) ⌝ }
+    requires { ⌜ AtTurn map (now keys) (now left) (now right) (now work) (map .t) (map .t) × Blank (3 * map .m) (now cells) ⌝ }
     ensures { λ _. ⌜ FilledAll map (now (keys .entry)) (now (cells .entry)) (now (cells .exit)) ⌝ }
 {
     let t = map.t;

@@ -9,11 +9,13 @@ mod peel;
 
 use items::Items;
 
-// A map that is being built: its items, their seed, the size m of its segments and the number t of its items.
+// A map that is being built: its items, their mixed seed, the size m of its segments with its reciprocal r, and the number t of
+// its items.
 struct Map {
     pub which: Items,
-    pub seed: u64,
+    pub mixed: u64,
     pub m: usize,
+    pub r: u64,
     pub t: usize,
 }
 

@@ -1,126 +1,86 @@
-// Peels items that are alone at a cell, as long as there are any. After the counts and xors the work holds a stack of the items peeled, and
-// after that a stack of the cells that they were alone at.
-ghost use mathlib.Core.Path.{_≡_};
+// Peels items that are alone at a cell, as long as there are any. An item gets its turn when it is found alone, and is taken out of its cells
+// when the turn comes: then its cells are at hand to be tried. After the counts and xors the work holds for each item a mark, 0 while it has no
+// turn and 1 more than the cell that it was found at, so that none gets two, and after that the queue of those that have their turns.
 ghost use Prim.Native.Nat.{_+_, _*_, _<_, _≤_};
-ghost use lib.ListN.{length, getD};
-ghost use Rattle.maps.specs.Jam.{Touches};
-ghost use Rattle.maps.specs.Inner.Work.{Queue};
-ghost use Rattle.maps.specs.Inner.Ready.{graph, Ready, AtTurn, TriedAt, PeeledOut};
+ghost use lib.ListN.{length};
+ghost use Rattle.maps.specs.Inner.Work.{AllSeen, Tryable, Tried};
+ghost use Rattle.maps.specs.Inner.Ready.{Ready, AtTurn, Queued};
 use crate::Map;
 use crate::count;
 
-// Peels the one item that is left at cell c, at turn n.
-fn peel_at(
-    map: Map,
-    keys: &[u64],
-    left: &[u16],
-    right: &[u16],
-    work: &mut [u16],
-    n: usize,
-    c: usize,
-)
-    requires { ⌜ AtTurn map (now keys) (now left) (now right) (now work) n × (c < 3 * map .m) × (getD (now work) c 0 ≡ 1) ⌝ }
-    ensures { λ _. ⌜ TriedAt map (now (keys .entry)) (λ k. c ≡ k) (now (work .entry)) n (now (work .exit)) (n + 1) ⌝ }
+// Gives the one item that is left at cell c its turn, where there is one that has none yet. The answer is how many have theirs.
+fn try_cell(work: &mut [u16], cap: usize, t: usize, n: usize, c: usize) -> usize
+    requires { ⌜ Tryable cap t (now work) n c ⌝ }
+    ensures { λ r. ⌜ Tried cap t c (now (work .entry)) n (now (work .exit)) r ⌝ }
+{
+    if work[c] != 1 {
+        return n;
+    }
+    let x = cap + c;
+    let i = work[x];
+    let y = cap + cap + i as usize;
+    if work[y] != 0 {
+        return n;
+    }
+    let z = cap + cap + t + n;
+    work[y] = c as u16 + 1;
+    work[z] = i;
+    n + 1
+}
+
+// Counts all items, and tries each cell once. The answer is how many items have their turn.
+fn scan(map: Map, keys: &[u64], left: &[u16], right: &[u16], work: &mut [u16]) -> usize
+    requires { ⌜ Ready map (now keys) (now left) (now right) × (6 * map .m + 2 * map .t ≤ length (now work)) ⌝ }
+    ensures { λ r. ⌜ Queued map (now (keys .entry)) (now (left .entry)) (now (right .entry)) (now (work .entry)) (now (work .exit)) 0 r ⌝ }
 {
     let m = map.m;
     let t = map.t;
-    let a = 3 * m + c;
-    let x = 6 * m + n;
-    let y = x + t;
-    let i = work[a];
-    work[x] = i;
-    work[y] = c as u16;
-    let at = count::cells_at(map, keys, left, right, i as usize);
-    count::take_item(work, 3 * m, at, i);
-}
-
-// Peels the item at cell c where one is left there. The answer is how many are peeled.
-fn try_peel(
-    map: Map,
-    keys: &[u64],
-    left: &[u16],
-    right: &[u16],
-    work: &mut [u16],
-    n: usize,
-    c: usize,
-) -> usize
-    requires { ⌜ AtTurn map (now keys) (now left) (now right) (now work) n × (c < 3 * map .m) ⌝ }
-    ensures { λ r. ⌜ TriedAt map (now (keys .entry)) (λ k. c ≡ k) (now (work .entry)) n (now (work .exit)) r ⌝ }
-{
-    if work[c] == 1 {
-        peel_at(map, keys, left, right, work, n, c);
-        n + 1
-    } else {
-        n
-    }
-}
-
-// Tries each cell once.
-fn scan(map: Map, keys: &[u64], left: &[u16], right: &[u16], work: &mut [u16]) -> usize
-    requires { ⌜ AtTurn map (now keys) (now left) (now right) (now work) 0 ⌝ }
-    ensures { λ r. ⌜ TriedAt map (now (keys .entry)) (λ k. k < 3 * map .m) (now (work .entry)) 0 (now (work .exit)) r ⌝ }
-{
-    let m = map.m;
+    cells::clear(work, 6 * m + t);
+    count::count_all(map, keys, left, right, work);
     let mut n = 0;
     let mut c = 0;
     while c < 3 * m {
-        n = try_peel(map, keys, left, right, work, n, c);
+        n = try_cell(work, 3 * m, t, n, c);
         c += 1;
     }
     n
 }
 
-// Tries the three cells of item i.
-fn try_three(
+// Takes out the item of turn q, and tries its three cells. The answer is how many items have their turn.
+fn take_turn(
     map: Map,
     keys: &[u64],
     left: &[u16],
     right: &[u16],
     work: &mut [u16],
+    q: usize,
     n: usize,
-    i: usize,
 ) -> usize
-    requires { ⌜ AtTurn map (now keys) (now left) (now right) (now work) n × (i < map .t) ⌝ }
-    ensures { λ r. ⌜ TriedAt map (now (keys .entry)) (Touches (graph map (now (keys .entry))) i) (now (work .entry)) n (now (work .exit)) r ⌝ }
-{
-    let at = count::cells_at(map, keys, left, right, i);
-    let n1 = try_peel(map, keys, left, right, work, n, at.first);
-    let n2 = try_peel(map, keys, left, right, work, n1, at.second);
-    try_peel(map, keys, left, right, work, n2, at.third)
-}
-
-// Tries the cells of each peeled item in turn, those peeled on the way too. The answer is how many are peeled.
-fn chase(
-    map: Map,
-    keys: &[u64],
-    left: &[u16],
-    right: &[u16],
-    work: &mut [u16],
-    start: usize,
-) -> usize
-    requires { ⌜ AtTurn map (now keys) (now left) (now right) (now work) start × Queue (graph map (now keys)) (3 * map .m) (now work) 0 start ⌝ }
-    ensures { λ r. ⌜ PeeledOut map (now (keys .entry)) (now (left .entry)) (now (right .entry)) (now (work .entry)) (now (work .exit)) r ⌝ }
+    requires { ⌜ AtTurn map (now keys) (now left) (now right) (now work) q n × AllSeen (3 * map .m) (now work) × (q < n) ⌝ }
+    ensures { λ r. ⌜ Queued map (now (keys .entry)) (now (left .entry)) (now (right .entry)) (now (work .entry)) (now (work .exit)) (q + 1) r ⌝ }
 {
     let m = map.m;
-    let mut n = start;
+    let t = map.t;
+    let cap = 3 * m;
+    let x = cap + cap + t + q;
+    let i = work[x];
+    let at = count::cells_at(map, keys, left, right, i as usize);
+    count::take_item(work, cap, at, i);
+    let n1 = try_cell(work, cap, t, n, at.first);
+    let n2 = try_cell(work, cap, t, n1, at.second);
+    try_cell(work, cap, t, n2, at.third)
+}
+
+// Peels as many items as can be: takes the turns in order, those given on the way too. The answer is how many are peeled.
+pub fn peel_all(map: Map, keys: &[u64], left: &[u16], right: &[u16], work: &mut [u16]) -> usize
+    requires { ⌜ Ready map (now keys) (now left) (now right) × (6 * map .m + 2 * map .t ≤ length (now work)) ⌝ }
+    ensures { λ r. ⌜ Queued map (now (keys .entry)) (now (left .entry)) (now (right .entry)) (now (work .entry)) (now (work .exit)) r r ⌝ }
+{
+    let mut n = scan(map, keys, left, right, work);
     let mut q = 0;
     while q < n {
-        let a = 6 * m + q;
-        let i = work[a] as usize;
-        n = try_three(map, keys, left, right, work, n, i);
+        n = take_turn(map, keys, left, right, work, q, n);
         q += 1;
     }
     n
-}
-
-// Peels as many items as can be. The answer is how many are peeled.
-pub fn peel_all(map: Map, keys: &[u64], left: &[u16], right: &[u16], work: &mut [u16]) -> usize
-    requires { ⌜ Ready map (now keys) (now left) (now right) × (6 * map .m + 2 * map .t ≤ length (now work)) ⌝ }
-    ensures { λ r. ⌜ PeeledOut map (now (keys .entry)) (now (left .entry)) (now (right .entry)) (now (work .entry)) (now (work .exit)) r ⌝ }
-{
-    let m = map.m;
-    cells::clear(work, 6 * m);
-    count::count_all(map, keys, left, right, work);
-    let first = scan(map, keys, left, right, work);
-    chase(map, keys, left, right, work, first)
 }

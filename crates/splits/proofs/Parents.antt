@@ -6,10 +6,11 @@ use Prim.Native.Nat.{ℕ, zero, suc, _-_, _≤_, _<_, max, zero-le}
 use native.Mathlib.Nat.{le-refl}
 use native.Mathlib.Decide.{decLe}
 use native.Mathlib.Omega.{arith}
-use borrow.Author.Tests.{ltb-true, ltb-false, eqb-true, eqb-false, lt-ltb, le-leb, ne-eqb}
+use borrow.Author.Tests.{ltb-true, ltb-false, eqb-true, eqb-false, lt-ltb, le-ltb, le-leb, ne-eqb}
 use lib.Dec.{leb, ltb, eqb}
 use lib.ListN.{length}
 use Rattle.words.specs.Keys.{firstBits}
+use Rattle.words.proofs.Sharing.{shared-le}
 use Rattle.tables.specs.Tables.{keyAt, Table}
 use Rattle.splits.specs.Splits.{len, left, right, smallerOf, rootTo, root, parentLen, leftEntry, rightEntry}
 use Rattle.splits.specs.Inner.{lenOrZero}
@@ -74,6 +75,21 @@ pub root-more : (T : List ℕ) (m : ℕ) → 0 < m → smallerOf T (rootTo T (m 
 unfolding rootTo
 root-more T zero h = absurd (omega arith)
 root-more T (suc k) h = let e : suc k - 1 ≡ k = omega arith in rw e
+
+-- the code compares with the length that it kept, where 0 has the length 65
+pub smaller-later : (T : List ℕ) (r m : ℕ) → len T m < cond (eqb r 0) 65 (len T r) → m ≡ smallerOf T r m
+smaller-later T r m = by (eqb r 0)
+  where
+    by : (z : Bool) → len T m < cond z 65 (len T r) → m ≡ cond z m (cond (ltb (len T m) (len T r)) m r)
+    by true h = refl
+    by false h = rw (lt-ltb (len T m) (len T r) h)
+
+pub smaller-kept : (T : List ℕ) (r m : ℕ) → cond (eqb r 0) 65 (len T r) ≤ len T m → r ≡ smallerOf T r m
+smaller-kept T r m = by (eqb r 0)
+  where
+    by : (z : Bool) → cond z 65 (len T r) ≤ len T m → r ≡ cond z m (cond (ltb (len T m) (len T r)) m r)
+    by true h = absurd (omega (arith, shared-le (keyAt T (m - 1)) (keyAt T m)))
+    by false h = rw (le-ltb (len T m) (len T r) h)
 
 -- the entries of the stores
 pub left-root : (T : List ℕ) → leftEntry T 0 ≡ root T

@@ -5,10 +5,16 @@ ghost use lib.ListN.{length};
 ghost use Rattle.tables.specs.Tables.{Table};
 ghost use Rattle.tables.specs.Delimiters.{delimiters, Bucketed};
 ghost use Rattle.splits.specs.Splits.{root, smallerOf, leftEntry, rightEntry, leftStore, rightStore};
-ghost use Rattle.splits.specs.Inner.{SplitOf, Counted, Rising, Holds, Roomy, goesOn, Wrote};
+ghost use Rattle.splits.specs.Inner.{SplitOf, Counted, Rising, Holds, Roomy, goesOn, Known, Wrote};
 use crate::split::entry_at;
 use crate::split::len_at;
 use tables::delimiter::delimiter_count;
+
+// A split, 0 for none, and its len, which is 65 for none: more than any.
+struct Shortest {
+    split: usize,
+    bits: u32,
+}
 
 // Whether row j is a split with a string of l bits or more, which lies within the rows of a split beside it whose string has l bits.
 fn inside(keys: &[u64], b: usize, n: usize, j: usize, l: u32) -> bool
@@ -76,18 +82,16 @@ fn fill_right(keys: &[u64], b: usize, n: usize, right: &mut [u16])
     }
 }
 
-// Of r, 0 for none, and a later split m the one with the smaller len.
-fn smaller_of(keys: &[u64], b: usize, r: usize, m: usize) -> usize
-    requires { ⌜ SplitOf b (now keys) m × (r < m) ⌝ }
-    ensures { λ k. ⌜ (k ≡ smallerOf (delimiters b (now (keys .entry))) r m) × (k ≤ m) ⌝ }
+// Of a split, 0 for none, and a later split m the one with the smaller len.
+fn smaller_of(keys: &[u64], b: usize, s: Shortest, m: usize) -> Shortest
+    requires { ⌜ SplitOf b (now keys) m × Known (delimiters b (now keys)) s × (s .split < m) ⌝ }
+    ensures { λ k. ⌜ (k .split ≡ smallerOf (delimiters b (now (keys .entry))) (s .split) m) × Known (delimiters b (now (keys .entry))) k × (k .split ≤ m) ⌝ }
 {
-    if r == 0 {
-        return m;
+    let l = len_at(keys, b, m);
+    if l < s.bits {
+        return Shortest { split: m, bits: l };
     }
-    if len_at(keys, b, m) < len_at(keys, b, r) {
-        return m;
-    }
-    r
+    s
 }
 
 // The root split: 0 for fewer than two keys.
@@ -96,13 +100,13 @@ pub fn root_of(keys: &[u64], b: usize) -> usize
     ensures { λ r. ⌜ (r ≡ root (delimiters b (now (keys .entry)))) × (r ≤ length (delimiters b (now (keys .entry))) - 1) ⌝ }
 {
     let n = delimiter_count(keys, b);
-    let mut r = 0;
+    let mut s = Shortest { split: 0, bits: 65 };
     let mut m = 1;
     while m < n {
-        r = smaller_of(keys, b, r, m);
+        s = smaller_of(keys, b, s, m);
         m += 1;
     }
-    r
+    s.split
 }
 
 // Fills `left` and `right`: an entry for each row, and nothing beyond.

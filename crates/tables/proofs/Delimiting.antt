@@ -80,6 +80,9 @@ delimiters-one T =
     own : (i : ℕ) → i < length T → bucketEnd (length T) 1 i - 1 ≡ i
     own i h = omega (arith, mul-one (i + 1))
 
+pub delimiters-all : {b : ℕ} (T : List ℕ) → b ≡ 1 → delimiters b T ≡ T
+delimiters-all T e = rw e (delimiters-one T)
+
 -- the row of a delimiter, as the code finds it
 pub row-inner : (n b i : ℕ) → i * b + b ≤ n → i * b + b - 1 ≡ bucketEnd n b i - 1
 row-inner n b i h = omega (arith, next-row i b)

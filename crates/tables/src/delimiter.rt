@@ -1,4 +1,5 @@
-// The delimiters of a table: the last key of each bucket, read from the table. With buckets of one row they are the table itself.
+// The delimiters of a table: the last key of each bucket, read from the table. With buckets of one row they are the table itself, and are read
+// without a division or a product.
 ghost use mathlib.Core.Path.{_≡_};
 ghost use Prim.Native.Nat.{_≤_, _<_};
 ghost use lib.ListN.{length};
@@ -18,6 +19,9 @@ pub fn delimiter_count(keys: &[u64], b: usize) -> usize
     requires { ⌜ Bucketed b (now keys) ⌝ }
     ensures { λ r. ⌜ (r ≡ length (delimiters b (now (keys .entry)))) × (r ≤ length (now (keys .entry))) ⌝ }
 {
+    if b == 1 {
+        return keys.len();
+    }
     bucket_count(keys.len(), b)
 }
 
@@ -26,6 +30,9 @@ pub fn delimiter_at(keys: &[u64], b: usize, i: usize) -> u64
     requires { ⌜ Bucketed b (now keys) × (i < length (delimiters b (now keys))) ⌝ }
     ensures { λ r. ⌜ r ≡ keyAt (delimiters b (now (keys .entry))) i ⌝ }
 {
+    if b == 1 {
+        return keys[i];
+    }
     let n = keys.len();
     let end = i * b + b;
     if end <= n {

@@ -3,18 +3,19 @@ use mathlib.Core.Path.{_≡_}
 use mathlib.Core.List.{List}
 use Prim.Native.Nat.{ℕ, zero, suc, _+_, _*_, _≤_, _<_}
 use lib.ListN.{length, getD, set}
-use Rattle.words.specs.Mix.{itemHash}
+use Rattle.words.specs.Inner.{mixedHash}
+use Rattle.words.specs.Reciprocals.{Reciprocal}
 use Rattle.cells.specs.Cells.{segment, cellOf, Segment}
 use Rattle.items.specs.Items.{itemsOf, valuesOf, Known}
 use Rattle.maps.specs.declared.Map.{Map}
 use Rattle.maps.specs.declared.Touched.{Touched}
 use Rattle.maps.specs.Inner.Peel.{touchb}
-use Rattle.maps.specs.Inner.Work.{Holds, Beyond, Peeled, Tried, Stuck, turnItem, turnCell}
+use Rattle.maps.specs.Inner.Work.{Holds, Beyond, Peeled, AllSeen, turnItem, turnCell}
 use Rattle.maps.specs.Inner.Fill.{fix, Valued, Clean}
 
 -- the hash of item i
 abbrev pub hashOf : Map → List ℕ → ℕ → ℕ
-hashOf map keys i = itemHash (getD (itemsOf (map .which) keys) i 0) (map .seed)
+hashOf map keys i = mixedHash (getD (itemsOf (map .which) keys) i 0) (map .mixed)
 
 -- the cell that item i touches in segment j
 abbrev pub graph : Map → List ℕ → ℕ → ℕ → ℕ
@@ -31,6 +32,7 @@ pub record Ready (map : Map) (keys left right : List ℕ) : Type 0 where
   pub few : map .t ≤ 32768
   pub size : map .m ≡ segment (map .t)
   pub fits : Segment (map .m)
+  pub reciprocal : Reciprocal (map .m) (map .r)
 
 -- three cells as those of any item
 abbrev pub cellsOf : Touched → ℕ → ℕ → ℕ
@@ -56,26 +58,22 @@ pub record Counted (map : Map) (keys : List ℕ) (i : ℕ) (a b : List ℕ) : Ty
   pub holds : Holds i (3 * map .m) (λ c j. touchb (graph map keys) j c) b
   pub beyond : Beyond (6 * map .m) a b
 
--- n of the map's items are peeled, and the work is long enough for all of them
-pub record AtTurn (map : Map) (keys left right work : List ℕ) (n : ℕ) : Type 0 where
+-- n of the map's items have their turns, of which q are taken out, and the work is long enough for all of them
+pub record AtTurn (map : Map) (keys left right work : List ℕ) (q n : ℕ) : Type 0 where
   pub ready : Ready map keys left right
   pub long : 6 * map .m + 2 * map .t ≤ length work
-  pub peeled : Peeled (graph map keys) (map .t) (3 * map .m) work n
+  pub peeled : Peeled (graph map keys) (map .t) (3 * map .m) work q n
 
--- the cells of T were tried
-abbrev pub TriedAt : Map → List ℕ → (ℕ → Type 0) → List ℕ → ℕ → List ℕ → ℕ → Type 0
-TriedAt map keys T a n b r = Tried (graph map keys) (map .t) (3 * map .m) T a n b r
-
--- work a became b, in which n items are peeled and no more can be
-pub record PeeledOut (map : Map) (keys left right a b : List ℕ) (n : ℕ) : Type 0 where
-  pub turn : AtTurn map keys left right b n
-  pub stuck : Stuck (3 * map .m) b
+-- work a became b, in which n items have their turns, of which q are taken out, and no other is left alone at a cell
+pub record Queued (map : Map) (keys left right a b : List ℕ) (q n : ℕ) : Type 0 where
+  pub turn : AtTurn map keys left right b q n
+  pub seen : AllSeen (3 * map .m) b
   pub beyond : Beyond (6 * map .m + 2 * map .t) a b
 
 -- the cells with the value of turn p's item set by a store at that turn's cell
 abbrev pub fixed : Map → List ℕ → List ℕ → List ℕ → ℕ → List ℕ
 fixed map keys work cells p =
-    let i = turnItem (3 * map .m) work p in
+    let i = turnItem (3 * map .m) (map .t) work p in
     let c = turnCell (3 * map .m) (map .t) work p in
     set cells c (fix (graph map keys) cells i c (wanted map keys i))
 

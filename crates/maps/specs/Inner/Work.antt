@@ -1,14 +1,14 @@
--- What the lent work holds: for each of `cap` cells the number of items there and the xor of their numbers, then the items peeled, then the
--- cells that they were peeled at.
+-- What the lent work holds: for each of `cap` cells the number of items there and the xor of their numbers, then for each item a mark of the
+-- cell that it is peeled at, then the items in the order of their turns.
 use mathlib.Core.Path.{_≡_}
 use mathlib.Core.Bool.{Bool, cond}
 use mathlib.Core.List.{List}
-use mathlib.Core.Logic.{_⊎_}
-use Prim.Native.Nat.{ℕ, zero, suc, _+_, _<_, _≤_}
+use Prim.Native.Nat.{ℕ, zero, suc, _+_, _-_, _<_, _≤_}
+use lib.Dec.{eqb}
 use lib.ListN.{length, getD}
 use lib.Bits.{bitXor}
-use Rattle.maps.specs.Jam.{Touches, sizeOf}
-use Rattle.maps.specs.Inner.Peel.{touchb, Peeling, still}
+use Rattle.maps.specs.Jam.{sizeOf}
+use Rattle.maps.specs.Inner.Peel.{touchb, live, Peeling, still}
 
 -- one more where the test is true
 abbrev pub moreIf : Bool → ℕ → ℕ
@@ -49,33 +49,45 @@ pub record Blank (m : ℕ) (xs : List ℕ) : Type 0 where
 abbrev pub Beyond : ℕ → List ℕ → List ℕ → Type 0
 Beyond m a b = (k : ℕ) → m ≤ k → getD b k 0 ≡ getD a k 0
 
--- the item peeled at turn p, and its cell
-abbrev pub turnItem : ℕ → List ℕ → ℕ → ℕ
-turnItem cap w p = getD w (cap + cap + p) 0
+-- 1 more than the cell that item i is peeled at, and 0 while it has no turn
+abbrev pub mark : ℕ → List ℕ → ℕ → ℕ
+mark cap w i = getD w (cap + cap + i) 0
+
+-- the item of turn p, and its cell
+abbrev pub turnItem : ℕ → ℕ → List ℕ → ℕ → ℕ
+turnItem cap t w p = getD w (cap + cap + t + p) 0
 
 abbrev pub turnCell : ℕ → ℕ → List ℕ → ℕ → ℕ
-turnCell cap t w p = getD w (cap + cap + t + p) 0
+turnCell cap t w p = mark cap w (turnItem cap t w p) - 1
 
--- n items are peeled, and w says which, where, and what is left
-pub record Peeled (e : ℕ → ℕ → ℕ) (t cap : ℕ) (w : List ℕ) (n : ℕ) : Type 0 where
-  pub order : Peeling e t (turnItem cap w) (turnCell cap t w) n
-  pub holds : Holds t cap (still e (turnItem cap w) n) w
+-- n items have their turns, and the first q of them are taken out: w says which, where, and what is left
+pub record Peeled (e : ℕ → ℕ → ℕ) (t cap : ℕ) (w : List ℕ) (q n : ℕ) : Type 0 where
+  pub order : Peeling e t (turnItem cap t w) (turnCell cap t w) n
+  pub holds : Holds t cap (still e (turnItem cap t w) q) w
+  pub marks : (i : ℕ) → i < t → eqb (mark cap w i) 0 ≡ live (turnItem cap t w) n i
+  pub behind : q ≤ n
 
--- the cells of T were tried: a with n peeled became b with r peeled. A cell of b with one item left had one in a and was not tried, or is
--- touched by an item peeled since
-pub record Tried (e : ℕ → ℕ → ℕ) (t cap : ℕ) (T : ℕ → Type 0) (a : List ℕ) (n : ℕ) (b : List ℕ) (r : ℕ) : Type 0 where
-  pub peeled : Peeled e t cap b r
-  pub grows : n ≤ r
-  pub kept : (p : ℕ) → p < n → turnItem cap b p ≡ turnItem cap a p
-  pub others :
-      (k : ℕ) → k < cap → getD b k 0 ≡ 1
-      → ((getD a k 0 ≡ 1) × (T k → ⊥)) ⊎ ((p : ℕ) × (n ≤ p) × (p < r) × Touches e (turnItem cap b p) k)
-  pub beyond : Beyond (cap + cap + t + t) a b
+-- if one item is left at cell k, it has its turn
+abbrev pub Seen : ℕ → List ℕ → ℕ → Type 0
+Seen cap w k = getD w k 0 ≡ 1 → mark cap w (getD w (cap + k) 0) ≡ 0 → ⊥
 
--- each cell with one item left is touched by an item peeled at turn q or later
-abbrev pub Queue : (ℕ → ℕ → ℕ) → ℕ → List ℕ → ℕ → ℕ → Type 0
-Queue e cap w q n = (k : ℕ) → k < cap → getD w k 0 ≡ 1 → (p : ℕ) × (q ≤ p) × (p < n) × Touches e (turnItem cap w p) k
+-- each item that is left alone at a cell has its turn
+abbrev pub AllSeen : ℕ → List ℕ → Type 0
+AllSeen cap w = (k : ℕ) → k < cap → Seen cap w k
 
--- no cell has one item left
-abbrev pub Stuck : ℕ → List ℕ → Type 0
-Stuck cap w = (k : ℕ) → k < cap → getD w k 0 ≡ 1 → ⊥
+-- cell c can be tried, with n turns given: there is room, and what is left alone at a cell is an item
+pub record Tryable (cap t : ℕ) (w : List ℕ) (n c : ℕ) : Type 0 where
+  pub below : c < cap
+  pub narrow : cap < 65536
+  pub few : t < 65536
+  pub long : cap + cap + t + t ≤ length w
+  pub items : (k : ℕ) → k < cap → getD w k 0 ≡ 1 → getD w (cap + k) 0 < t
+  pub room : getD w c 0 ≡ 1 → mark cap w (getD w (cap + c) 0) ≡ 0 → n < t
+
+-- cell c was tried: w with n turns given became w′ with r. Whatever cells the items touch and however many are taken out, w′ says of r
+-- turns what w said of n
+pub record Tried (cap t c : ℕ) (w : List ℕ) (n : ℕ) (w′ : List ℕ) (r : ℕ) : Type 0 where
+  pub peeled : (e : ℕ → ℕ → ℕ) (q : ℕ) → Peeled e t cap w q n → Peeled e t cap w′ q r
+  pub here : Seen cap w′ c
+  pub kept : (k : ℕ) → k < cap → Seen cap w k → Seen cap w′ k
+  pub beyond : Beyond (cap + cap + t + t) w w′

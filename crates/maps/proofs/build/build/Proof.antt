@@ -13,7 +13,7 @@ use Rattle.maps.proofs.build.build.Statement.{statement}
 use Rattle.maps.proofs.build.build.Tie as tie
 
 abbrev start : tie.After-clear → tie.Start
-start k = k .before .before .before .before .before .before .before .before .before
+start k = k .before .before .before .before .before .before .before .before .before .before .before
 
 abbrev clearing : tie.After-peel-all → tie.After-clear
 clearing p = p .before .before .before .before
@@ -26,16 +26,17 @@ abbrev map : tie.After-clear → Map
 map k =
     record {
       which = start k .args .which;
-      seed = start k .args .seed;
-      m = k .before .before .segment-size .result;
-      t = k .before .before .before .item-count .result;
+      mixed = k .before .before .before .mix-seed .result;
+      m = k .before .before .before .before .segment-size .result;
+      r = k .before .before .reciprocal .result;
+      t = k .before .before .before .before .before .item-count .result;
     }
 
 ready : (k : tie.After-clear) → Ready (map k) (now (start k .args .keys)) (now (start k .args .left)) (now (start k .args .right))
 ready k =
-    let counted = k .before .before .before .item-count .ensures in
-    let sized = k .before .before .segment-size .ensures in
-    record { known = start k .pre .0; all = counted .0; few = counted .1; size = sized .0; fits = sized .1 }
+    let counted = k .before .before .before .before .before .item-count .ensures in
+    let sized = k .before .before .before .before .segment-size .ensures in
+    record { known = start k .pre .0; all = counted .0; few = counted .1; size = sized .0; fits = sized .1; reciprocal = k .before .before .reciprocal .ensures }
 
 -- where the arms of the branch meet
 abbrev cleared-at : tie.Joined1 → tie.After-clear
@@ -76,14 +77,18 @@ returns : tie.Need-returns
 returns c =
     let j = c .before .before .before .before in
     let p = peeled j .peel-all in
-    let k = cleared-at j .clear in
-    built (k .ensures) (k .kept .0) (p .ensures) (p .kept .1 .1 .1 .1 .0) (c .before .before .clear2 .ensures) (ended j)
+    let k = cleared-at j in
+    let z = k .clear in
+    built (start k .args .seed) (k .before .before .before .mix-seed .ensures) (z .ensures) (z .kept .0) (p .ensures) (p .kept .1 .1 .1 .1 .0)
+    (c .before .before .clear2 .ensures) (ended j)
 
 pub build-spec : {M : Type 1} → statement M
 build-spec =
     tie.close
     (tie.spec
     (λ c κs. search needs)
+    (λ c κs. search needs)
+    (λ c κs. tt)
     (λ c κs. search needs)
     (λ c. search needs)
     clear-requires

@@ -12,7 +12,7 @@ returns c =
     let s = hashed .before .before .before .before in
     cells-found (s .args .map .m) (hashOf (s .args .map) (now (s .args .keys))) (s .args .i) (hashed .hash-at .result) _ (s .pre .0 .fits)
     (hashed .hash-at .ensures)
-    (c .before .before .cell-of .ensures .0) (c .before .cell-of2 .ensures .0) (c .cell-of3 .ensures .0)
+    (c .before .before .cell-from .ensures .0) (c .before .cell-from2 .ensures .0) (c .cell-from3 .ensures .0)
 
 pub cells-at-spec : {M : Type 1} → statement M
 cells-at-spec =

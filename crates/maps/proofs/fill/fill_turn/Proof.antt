@@ -1,12 +1,11 @@
 -- `maps::fill::fill_turn` meets its contract: the work holds the turn's item and cell, and what the calls ensure is put into the store.
 -- Assumes nothing.
-use mathlib.Core.Path.{_≡_, refl, ap}
-use Prim.Native.Nat.{ℕ, _+_, _*_, _<_}
+use mathlib.Core.Path.{refl}
+use Prim.Native.Nat.{ℕ, _*_, _≤_, _<_}
 use native.Mathlib.Omega.{arith}
 use denote.Ref.{now}
-use lib.ListN.{getD}
-use Rattle.maps.specs.Inner.Work.{turnItem, turnCell}
-use Rattle.maps.proofs.Trying.{turn-small}
+use Rattle.maps.specs.Inner.Work.{mark, turnItem, turnCell}
+use Rattle.maps.proofs.Peeling.{turn-marked}
 use Rattle.maps.proofs.Filling.{store-fixes, cell-below}
 use borrow.Author.Needs.{needs}
 use Rattle.maps.proofs.fill.fill_turn.Statement.{statement}
@@ -15,29 +14,43 @@ use Rattle.maps.proofs.fill.fill_turn.Tie as tie
 abbrev start : tie.After-shared-slice-known4 → tie.Start
 start k = k .before .before .before .before .before
 
--- the item and the cell, as they are read
+-- the turn's item, its mark and the cell that it says
 abbrev I : tie.Start → ℕ
-I s = getD (now (s .args .work)) (6 * s .args .map .m + s .args .p) 0
+I s = turnItem (3 * s .args .map .m) (s .args .map .t) (now (s .args .work)) (s .args .p)
+
+abbrev K : tie.Start → ℕ
+K s = mark (3 * s .args .map .m) (now (s .args .work)) (I s)
 
 abbrev C : tie.Start → ℕ
-C s = getD (now (s .args .work)) (6 * s .args .map .m + s .args .p + s .args .map .t) 0
-
-item-at : (s : tie.Start) → I s ≡ turnItem (3 * s .args .map .m) (now (s .args .work)) (s .args .p)
-item-at s = ap (λ (k : ℕ). getD (now (s .args .work)) k 0) (omega arith)
-
-cell-at : (s : tie.Start) → C s ≡ turnCell (3 * s .args .map .m) (s .args .map .t) (now (s .args .work)) (s .args .p)
-cell-at s = ap (λ (k : ℕ). getD (now (s .args .work)) k 0) (omega arith)
+C s = turnCell (3 * s .args .map .m) (s .args .map .t) (now (s .args .work)) (s .args .p)
 
 below : (s : tie.Start) → (I s < s .args .map .t) × (C s < 3 * s .args .map .m)
 below s =
     let A = s .pre .0 in
-    (turn-small (6 * s .args .map .m + s .args .p) A refl (s .pre .2), rw (cell-at s) (cell-below A (s .args .p) (s .pre .2)))
+    (A .peeled .order .small (s .args .p) (s .pre .2), cell-below A (s .args .p) (s .pre .2))
+
+marked : (s : tie.Start) → (0 < K s) × (K s ≤ 3 * s .args .map .m)
+marked s =
+    let some = turn-marked (s .args .p) (s .pre .0 .peeled) (s .pre .2) in
+    (some, omega (arith, below s .1))
 
 cast-i : tie.Need-cast-i
-cast-i c = omega (arith, below (start (c .before)), start (c .before) .pre .0 .ready .few)
+cast-i c = omega (arith, below (start (c .before)) .0, start (c .before) .pre .0 .ready .few)
+
+add-y-2 : tie.Need-add-y-2
+add-y-2 c = omega (arith, below (start (c .before)) .0)
+
+mul-c : tie.Need-mul-c
+mul-c c = omega (arith, below (start (c .before)) .0)
+
+shared-slice-read-c : tie.Need-shared-slice-read-c
+shared-slice-read-c c = omega (arith, below (start (c .before .before)) .0, start (c .before .before) .pre .0 .long)
 
 cast-c : tie.Need-cast-c
-cast-c c = omega (arith, below (start (c .before .before)), start (c .before .before) .pre .0 .ready .fits)
+cast-c c = omega (arith, marked (start (c .before .before)), start (c .before .before) .pre .0 .ready .fits)
+
+sub-c : tie.Need-sub-c
+sub-c c = omega (arith, marked (start (c .before .before)))
 
 hash-at-requires : tie.Need-hash-at-requires
 hash-at-requires c κs =
@@ -66,8 +79,8 @@ returns c =
     let hashed = c .before .before .before in
     let s = start (hashed .before .before .before .before) in
     store-fixes (s .args .map) (now (s .args .keys)) (now (s .args .work)) (now (s .args .cells)) (s .args .p) (I s) (C s)
-    (hashed .hash-at .result) (c .before .before .value-of .result) (c .value-at .result)
-    (item-at s) (cell-at s) (hashed .hash-at .ensures) (c .before .before .value-of .ensures) (c .value-at .ensures)
+    (hashed .hash-at .result) (c .before .before .value-from .result) (c .value-at .result)
+    refl refl (hashed .hash-at .ensures) (c .before .before .value-from .ensures) (c .value-at .ensures)
 
 pub fill-turn-spec : {M : Type 1} → statement M
 fill-turn-spec =
@@ -78,10 +91,14 @@ fill-turn-spec =
     (λ c. search needs)
     (λ c. search needs)
     (λ c. search needs)
+    (λ c. search needs)
     cast-i
     (λ c. search needs)
-    (λ c. search needs)
+    add-y-2
+    mul-c
+    shared-slice-read-c
     cast-c
+    sub-c
     hash-at-requires
     (λ c κs. search needs)
     mul-cells

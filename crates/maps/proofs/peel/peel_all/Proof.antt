@@ -1,67 +1,64 @@
--- `maps::peel::peel_all` meets its contract: all items are counted, each cell is tried, and the peeled items are followed. Assumes nothing.
-use mathlib.Core.Path.{_≡_, _∙_}
-use Prim.Native.Nat.{_*_}
+-- `maps::peel::peel_all` meets its contract. The loop's invariant: each item that is left alone at a cell has its turn, and the first q turns
+-- are taken. The measure is what is left of the turns. Assumes nothing.
+use mathlib.Core.Path.{_≡_, refl, _∙_}
+use Prim.Native.Nat.{_-_, _≤_}
 use native.Mathlib.Omega.{arith}
-use denote.Ref.{now}
 use lib.ListN.{length}
-use Rattle.maps.proofs.Clearing.{cleared-blank, cleared-beyond}
-use Rattle.maps.proofs.Trying.{first-turn, tried-queue}
+use Rattle.maps.specs.Inner.Ready.{Queued}
+use Rattle.maps.proofs.Peeling.{at-most}
 use borrow.Author.Needs.{needs}
 use Rattle.maps.proofs.peel.peel_all.Statement.{statement}
 use Rattle.maps.proofs.peel.peel_all.Tie as tie
 
-abbrev clearing : tie.After-count-all → tie.After-clear
-clearing k = k .before .before .before .before
+abbrev Inv-loop : tie.InvT-loop
+Inv-loop map keys left right work₀ n₀ q₀ work n q =
+    (q ≤ n) × (n ≤ map .t) × (length work ≡ length work₀) × Queued map keys left right work₀ work q n
 
-abbrev start : tie.After-clear → tie.Start
-start k = k .before .before .before .before .before .before
+abbrev μ-loop : tie.MeasureT-loop
+μ-loop map keys left right work₀ n₀ q₀ work n q = map .t - q
 
--- counting keeps the length of the work
-long : (k : tie.After-count-all) → length (k .count-all .last .1 .1 .1 .1 .0) ≡ length (now (start (clearing k) .args .work))
-long k = k .count-all .kept .1 .1 .1 .1 .0 ∙ clearing k .clear .kept .0
+loop-holds : tie.Need-loop-holds Inv-loop μ-loop
+loop-holds c =
+    let Q = c .before .before .scan .ensures in
+    (omega arith, at-most (Q .turn .peeled), refl, record { turn = Q .turn; seen = Q .seen; beyond = λ k l. refl })
 
-count-all-requires : tie.Need-count-all-requires
-count-all-requires c κs =
-    let k = c .before .before .before in
-    let s = start k in
-    (s .pre .0, cleared-blank (6 * s .args .map .m) (now (s .args .work)) (k .clear .ensures) (k .clear .kept .0) (omega arith))
+take-turn-requires : tie.Need-take-turn-requires Inv-loop μ-loop
+take-turn-requires c κs =
+    let Q = c .before .before .loop .inv .3 in
+    (Q .turn, Q .seen, c .before .loop-test .taken)
 
-scan-requires : tie.Need-scan-requires
-scan-requires c κs =
-    let k = c .before .before .before in
-    first-turn (start (clearing k) .pre .0) (omega (arith, long k)) (k .count-all .ensures)
+loop-again : tie.Need-loop-again Inv-loop μ-loop
+loop-again c =
+    let called = c .before .before in
+    let inv = called .before .before .before .loop .inv in
+    let Q = called .take-turn .ensures in (
+      Q .turn .peeled .behind,
+      at-most (Q .turn .peeled),
+      called .take-turn .kept .1 .1 .1 .1 .0 ∙ inv .2,
+      record { turn = Q .turn; seen = Q .seen; beyond = λ k l. Q .beyond k l ∙ inv .3 .beyond k l },
+    )
 
-chase-requires : tie.Need-chase-requires
-chase-requires c κs =
-    let p = c .before .before .before in
-    let k = p .before .before .before .before in
-    let s = start (clearing k) in
-    let l : length (p .scan .last .1 .1 .1 .1 .0) ≡ length (now (s .args .work)) = p .scan .kept .1 .1 .1 .1 .0 ∙ long k in
-    (record { ready = s .pre .0; long = omega arith; peeled = p .scan .ensures .peeled }, tried-queue (p .scan .ensures))
+same-length : tie.Need-same-length Inv-loop μ-loop
+same-length c = c .before .loop .inv .2 ∙ c .before .before .before .before .scan .kept .1 .1 .1 .1 .0
 
-returns : tie.Need-returns
+returns : tie.Need-returns Inv-loop μ-loop
 returns c =
-    let q = c .before .before in
-    let p = q .before .before .before .before in
-    let k = p .before .before .before .before in
-    let s = start (clearing k) in
-    let out = q .chase .ensures in
-    record {
-      turn = out .turn;
-      stuck = out .stuck;
-      beyond = λ i l.
-          out .beyond i l ∙ p .scan .ensures .beyond i (omega arith) ∙ k .count-all .ensures .beyond i (omega arith)
-          ∙ cleared-beyond (6 * s .args .map .m) (now (s .args .work)) (clearing k .clear .ensures) i (omega arith);
-    }
+    let at-loop = c .before in
+    let Q = at-loop .loop .inv .3 in
+    let z : at-loop .loop .q ≡ at-loop .loop .n = omega (arith, at-loop .loop .inv .0) in
+    record { turn = rw z at (Q .turn); seen = Q .seen; beyond = λ k l. Q .beyond k l ∙ at-loop .before .before .before .scan .ensures .beyond k l }
 
 pub peel-all-spec : {M : Type 1} → statement M
 peel-all-spec =
     tie.close
     (tie.spec
-    (λ c. search needs)
+    Inv-loop
+    μ-loop
     (λ c κs. search needs)
-    count-all-requires
-    scan-requires
-    chase-requires
+    loop-holds
+    take-turn-requires
     (λ c. search needs)
+    (λ c. search needs)
+    loop-again
+    same-length
     returns)

@@ -1,30 +1,34 @@
--- `splits::bounds::root_of` meets its contract. The loop's invariant: r is the root of the splits below m. The measure is what is left
--- of the rows. Assumes nothing.
+-- `splits::bounds::root_of` meets its contract. The loop's invariant: s is the root of the splits below m, with its len. The measure is what is
+-- left of the rows. Assumes nothing.
 use mathlib.Core.Path.{_≡_, refl, _∙_}
 use Prim.Native.Nat.{_+_, _-_, _≤_, _<_}
 use native.Mathlib.Omega.{arith}
 use lib.ListN.{length}
 use Rattle.tables.specs.Delimiters.{delimiters}
 use Rattle.splits.specs.Splits.{rootTo}
+use Rattle.splits.specs.Inner.{Known}
 use Rattle.splits.proofs.Parents.{root-more}
 use Rattle.splits.proofs.bounds.root_of.Statement.{statement}
 use Rattle.splits.proofs.bounds.root_of.Tie as tie
 
 abbrev Inv-loop : tie.InvT-loop
-Inv-loop keys b n r₀ m₀ r m = (0 < m) × (m - 1 ≤ n - 1) × (r ≤ m - 1) × (r ≡ rootTo (delimiters b keys) (m - 1))
+Inv-loop keys b n s₀ m₀ s m =
+    (0 < m) × (m - 1 ≤ n - 1) × (s .split ≤ m - 1) × (s .split ≡ rootTo (delimiters b keys) (m - 1)) × Known (delimiters b keys) s
 
 abbrev μ-loop : tie.MeasureT-loop
-μ-loop keys b n r₀ m₀ r m = n - m
+μ-loop keys b n s₀ m₀ s m = n - m
 
 delimiter-count-requires : tie.Need-delimiter-count-requires Inv-loop μ-loop
 delimiter-count-requires c κs = c .before .pre
 
 loop-holds : tie.Need-loop-holds Inv-loop μ-loop
 unfolding rootTo
-loop-holds c = (omega arith, omega arith, omega arith, refl)
+loop-holds c = (omega arith, omega arith, omega arith, refl, refl)
 
 smaller-of-requires : tie.Need-smaller-of-requires Inv-loop μ-loop
-smaller-of-requires c κs = (record { bucketed = c .before .before .before .before .pre; pos = omega arith; small = omega arith }, omega arith)
+smaller-of-requires c κs =
+    let i = c .before .loop .inv in
+    (record { bucketed = c .before .before .before .before .pre; pos = omega arith; small = omega arith }, i .4, omega arith)
 
 add-m : tie.Need-add-m Inv-loop μ-loop
 add-m c = omega arith
@@ -38,7 +42,8 @@ loop-again c =
     let i = c .before .before .loop .inv in
     let m = c .before .before .loop .m in
     let back : m + 1 - 1 ≡ m = omega arith in
-    (omega arith, omega arith, omega arith, rw back (c .smaller-of .ensures .0 ∙ rw (i .3) (root-more (delimiters (a .b) (a .keys .now)) m (i .0))))
+    let k = c .smaller-of .ensures in
+    (omega arith, omega arith, omega arith, rw back (k .0 ∙ rw (i .3) (root-more (delimiters (a .b) (a .keys .now)) m (i .0))), k .1)
 
 returns : tie.Need-returns Inv-loop μ-loop
 returns c =

@@ -1,12 +1,14 @@
--- `tables::delimiter::delimiter_at` meets its contract: the bucket begins inside the table, so it has a last row. Assumes nothing.
-use mathlib.Core.Path.{_≡_, sym, ap, _∙_}
+-- `tables::delimiter::delimiter_at` meets its contract: with buckets of one row the delimiters are the table, and
+-- otherwise the bucket begins inside the table, so it has a last row. Assumes nothing.
+use mathlib.Core.Path.{sym, ap, _∙_}
+use mathlib.Core.List.{List}
 use Prim.Native.Nat.{ℕ, _*_, _<_}
 use native.Mathlib.Omega.{arith}
 use lib.ListN.{length}
 use borrow.Author.Needs.{needs}
 use Rattle.tables.specs.Tables.{keyAt}
 use Rattle.tables.specs.Delimiters.{buckets}
-use Rattle.tables.proofs.Delimiting.{bucket-begins, length-delimiters, delimiter-is, row-inner, row-last}
+use Rattle.tables.proofs.Delimiting.{bucket-begins, length-delimiters, delimiter-is, delimiters-all, row-inner, row-last}
 use Rattle.tables.proofs.delimiter.delimiter_at.Statement.{statement}
 use Rattle.tables.proofs.delimiter.delimiter_at.Tie as tie
 
@@ -16,53 +18,71 @@ there c = rw (length-delimiters (c .args .b) (c .args .keys .now)) at (c .pre .1
 begins : (c : tie.Start) → c .args .i * c .args .b < length (c .args .keys .now)
 begins c = bucket-begins (length (c .args .keys .now)) (c .args .b) (c .args .i) (c .pre .0 .some) (there c)
 
-mul-end : tie.Need-mul-end
-mul-end c = omega (arith, begins c)
-
-add-end : tie.Need-add-end
-add-end c = omega (arith, begins c)
-
-sub-result : tie.Need-sub-result
-sub-result c = search needs
+-- with buckets of one row
+one : (c : tie.Then1) → c .before .args .i < length (c .before .args .keys .now)
+one c = rw (delimiters-all (c .before .args .keys .now) (c .if1 .taken)) at (c .before .pre .1)
 
 mul-result : tie.Need-mul-result
-mul-result c = search needs
+mul-result c = omega (arith, one c)
 
 shared-slice-read-result : tie.Need-shared-slice-read-result
-shared-slice-read-result c = search needs
+shared-slice-read-result c = omega (arith, one (c .before))
 
 returns : tie.Need-returns
 returns c =
     let s = c .before .before in
-    let keys = s .args .keys .now in
-    ap (keyAt keys) (row-inner (length keys) (s .args .b) (s .args .i) (c .before .if1 .taken)) ∙ sym (delimiter-is (s .args .b) keys (s .args .i) (there s))
+    ap (λ (T : List ℕ). keyAt T (s .args .i)) (sym (delimiters-all (s .args .keys .now) (c .before .if1 .taken)))
 
-sub-result-2 : tie.Need-sub-result-2
-sub-result-2 c = omega (arith, begins (c .before))
+mul-end : tie.Need-mul-end
+mul-end c = omega (arith, begins (c .before))
+
+add-end : tie.Need-add-end
+add-end c = omega (arith, begins (c .before))
+
+sub-result : tie.Need-sub-result
+sub-result c = search needs
 
 mul-result-2 : tie.Need-mul-result-2
 mul-result-2 c = search needs
 
 shared-slice-read-result-2 : tie.Need-shared-slice-read-result-2
-shared-slice-read-result-2 c = omega (arith, begins (c .before .before))
+shared-slice-read-result-2 c = search needs
 
 returns-2 : tie.Need-returns-2
 returns-2 c =
-    let s = c .before .before in
+    let s = c .before .before .before in
     let keys = s .args .keys .now in
-    ap (keyAt keys) (row-last (length keys) (s .args .b) (s .args .i) (c .before .if1 .left)) ∙ sym (delimiter-is (s .args .b) keys (s .args .i) (there s))
+    ap (keyAt keys) (row-inner (length keys) (s .args .b) (s .args .i) (c .before .if2 .taken)) ∙ sym (delimiter-is (s .args .b) keys (s .args .i) (there s))
+
+sub-result-2 : tie.Need-sub-result-2
+sub-result-2 c = omega (arith, begins (c .before .before))
+
+mul-result-3 : tie.Need-mul-result-3
+mul-result-3 c = search needs
+
+shared-slice-read-result-3 : tie.Need-shared-slice-read-result-3
+shared-slice-read-result-3 c = omega (arith, begins (c .before .before .before))
+
+returns-3 : tie.Need-returns-3
+returns-3 c =
+    let s = c .before .before .before in
+    let keys = s .args .keys .now in
+    ap (keyAt keys) (row-last (length keys) (s .args .b) (s .args .i) (c .before .if2 .left)) ∙ sym (delimiter-is (s .args .b) keys (s .args .i) (there s))
 
 pub delimiter-at-spec : {M : Type 1} → statement M
 delimiter-at-spec =
     tie.close
     (tie.spec
-    mul-end
-    add-end
-    sub-result
     mul-result
     shared-slice-read-result
     returns
-    sub-result-2
+    mul-end
+    add-end
+    sub-result
     mul-result-2
     shared-slice-read-result-2
-    returns-2)
+    returns-2
+    sub-result-2
+    mul-result-3
+    shared-slice-read-result-3
+    returns-3)

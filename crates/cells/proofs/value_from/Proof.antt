@@ -1,17 +1,17 @@
--- `cells::value_of` meets its contract: the three cells lie within the slice. Assumes nothing.
+-- `cells::value_from` meets its contract: the three cells lie within the slice. Assumes nothing.
 use borrow.Author.Needs.{needs}
 use Rattle.cells.specs.Cells.{valueAt}
-use Rattle.cells.proofs.value_of.Statement.{statement}
-use Rattle.cells.proofs.value_of.Tie as tie
+use Rattle.cells.proofs.value_from.Statement.{statement}
+use Rattle.cells.proofs.value_from.Tie as tie
 
-cell-of-requires : tie.Need-cell-of-requires
-cell-of-requires c κs = search needs
+cell-from-requires : tie.Need-cell-from-requires
+cell-from-requires c κs = search needs
 
-cell-of-requires-2 : tie.Need-cell-of-requires-2
-cell-of-requires-2 c κs = search needs
+cell-from-requires-2 : tie.Need-cell-from-requires-2
+cell-from-requires-2 c κs = search needs
 
-cell-of-requires-3 : tie.Need-cell-of-requires-3
-cell-of-requires-3 c κs = search needs
+cell-from-requires-3 : tie.Need-cell-from-requires-3
+cell-from-requires-3 c κs = search needs
 
 mul-result : tie.Need-mul-result
 mul-result c = search needs
@@ -35,13 +35,13 @@ returns : tie.Need-returns
 unfolding valueAt
 returns c = cc
 
-pub value-of-spec : {M : Type 1} → statement M
-value-of-spec =
+pub value-from-spec : {M : Type 1} → statement M
+value-from-spec =
     tie.close
     (tie.spec
-    cell-of-requires
-    cell-of-requires-2
-    cell-of-requires-3
+    cell-from-requires
+    cell-from-requires-2
+    cell-from-requires-3
     mul-result
     shared-slice-read-result
     mul-result-2
