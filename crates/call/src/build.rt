@@ -12,7 +12,7 @@ fn build_keys(keys: &[u64], b: usize, seed1: u64, cells: &mut [u16], work: &mut 
     ensures { λ r. ⌜ KeysBuilt (now (keys .entry)) b seed1 (now (cells .entry)) (now (work .entry)) r (now (cells .exit)) (now (work .exit)) ⌝ }
 {
     let none = [0u16; 1];
-    maps::build::build(Items::Keys(b), seed1, keys, &none, &none, cells, work)
+    maps::build::build(Items::Keys, b, seed1, keys, &none, &none, cells, work)
 }
 
 // Map 2, in the part of the store that starts in the middle, at cell C(n).
@@ -23,7 +23,8 @@ fn build_prefixes(keys: &[u64], b: usize, seed2: u64, cells: &mut [u16], work: &
     let none = [0u16; 1];
     let c = cells::cell_count(keys.len());
     maps::build::build(
-        Items::Prefixes(b),
+        Items::Prefixes,
+        b,
         seed2,
         keys,
         &none,

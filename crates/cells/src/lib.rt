@@ -12,12 +12,13 @@ use words::remainder::reciprocal;
 use words::remainder::remainder;
 use words::remainder::small_remainder;
 
-// M, the cells of one of the three segments of a map of t items.
+// M, the cells of one of the three segments of a map of t items: 42 * t / 100 + 3. With the 3 under the division an ask keeps one number,
+// and not M and M - 3.
 pub fn segment_size(t: usize) -> usize
     requires { ⌜ t ≤ 32768 ⌝ }
     ensures { λ r. ⌜ (r ≡ segment t) × Segment r ⌝ }
 {
-    42 * t / 100 + 3
+    (42 * t + 300) / 100
 }
 
 // C(t), all the cells of a map of t items.

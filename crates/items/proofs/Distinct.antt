@@ -44,8 +44,8 @@ handles-distinct D t i j hi hj e =
     items-differ D t i j li lj (sym (handle-is D i li) ∙ e ∙ handle-is D j lj)
 
 -- the items of each map
-pub items-distinct : (w : Items) (T left right : List ℕ) → Known w T left right → Distinct (itemsOf w T)
+pub items-distinct : (w : Items) (b : ℕ) (T left right : List ℕ) → Known w b T left right → Distinct (itemsOf w b T)
 unfolding itemsOf
-items-distinct (Keys b) T left right k = keys-distinct T (k .source .table)
-items-distinct (Prefixes b) T left right k = prefixes-distinct b T (k .source)
-items-distinct (Handles b) T left right k = handles-distinct (delimiters b T) (delimiters-table b T (k .source .bucketed .some) (k .source .table))
+items-distinct Keys b T left right k = keys-distinct T (k .source .table)
+items-distinct Prefixes b T left right k = prefixes-distinct b T (k .source)
+items-distinct Handles b T left right k = handles-distinct (delimiters b T) (delimiters-table b T (k .source .bucketed .some) (k .source .table))

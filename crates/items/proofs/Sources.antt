@@ -13,25 +13,25 @@ use Rattle.items.proofs.Values.{length-prefixes, length-numbers, number
 use Rattle.items.proofs.Handling.{length-handles, length-splits, split-is, split-small}
 
 module _ {w : Items} {b : ℕ} {T left right : List ℕ} where
-  pub known-keys : w ≡ Keys b → Known w T left right → Sorted b T
+  pub known-keys : w ≡ Keys → Known w b T left right → Sorted b T
   known-keys e k = rw e at (k .source)
 
-  pub known-prefixes : w ≡ Prefixes b → Known w T left right → Sorted b T
+  pub known-prefixes : w ≡ Prefixes → Known w b T left right → Sorted b T
   known-prefixes e k = rw e at (k .source)
 
-  pub known-handles : w ≡ Handles b → Known w T left right → Bounds b T left right
+  pub known-handles : w ≡ Handles → Known w b T left right → Bounds b T left right
   known-handles e k = rw e at (k .source)
 
   module _ {i : ℕ} where
-    pub asked-keys : w ≡ Keys b → Known w T left right × (i < length (itemsOf w T)) → Sorted b T × (i < length T)
+    pub asked-keys : w ≡ Keys → Known w b T left right × (i < length (itemsOf w b T)) → Sorted b T × (i < length T)
     unfolding itemsOf
     asked-keys e p = (known-keys e (p .0), rw e at (p .1))
 
-    pub asked-prefixes : w ≡ Prefixes b → Known w T left right × (i < length (itemsOf w T)) → Sorted b T × (i < buckets (length T) b)
+    pub asked-prefixes : w ≡ Prefixes → Known w b T left right × (i < length (itemsOf w b T)) → Sorted b T × (i < buckets (length T) b)
     unfolding itemsOf
     asked-prefixes e p = (known-prefixes e (p .0), rw (e, length-prefixes b T) at (p .1))
 
-    pub asked-handles : w ≡ Handles b → Known w T left right × (i < length (itemsOf w T))
+    pub asked-handles : w ≡ Handles → Known w b T left right × (i < length (itemsOf w b T))
         → Bounds b T left right × (i + 2 < length (delimiters b T))
     unfolding itemsOf
     asked-handles e p =
@@ -39,19 +39,19 @@ module _ {w : Items} {b : ℕ} {T left right : List ℕ} where
         (known-handles e (p .0), omega arith)
 
 -- each item has a value
-pub length-values : (w : Items) (T : List ℕ) → length (valuesOf w T) ≡ length (itemsOf w T)
+pub length-values : (w : Items) (b : ℕ) (T : List ℕ) → length (valuesOf w b T) ≡ length (itemsOf w b T)
 unfolding itemsOf valuesOf
-length-values (Keys b) T = length-key-values b T
-length-values (Prefixes b) T = length-numbers b T ∙ sym (length-prefixes b T)
-length-values (Handles b) T = length-splits (delimiters b T) ∙ sym (length-handles (delimiters b T))
+length-values Keys b T = length-key-values b T
+length-values Prefixes b T = length-numbers b T ∙ sym (length-prefixes b T)
+length-values Handles b T = length-splits (delimiters b T) ∙ sym (length-handles (delimiters b T))
 
 -- it fits 16 bits
-pub values-small : (w : Items) (T left right : List ℕ) → Known w T left right → (i : ℕ) → i < length (itemsOf w T) → getD (valuesOf w T) i 0 < 65536
+pub values-small : (w : Items) (b : ℕ) (T left right : List ℕ) → Known w b T left right → (i : ℕ) → i < length (itemsOf w b T) → getD (valuesOf w b T) i 0 < 65536
 unfolding valuesOf
-values-small (Keys b) T left right k i h =
+values-small Keys b T left right k i h =
     let p = asked-keys refl (k, h) in rw (key-value-is b T i (p .1)) (key-value-small b T (p .0) i (p .1))
-values-small (Prefixes b) T left right k i h =
+values-small Prefixes b T left right k i h =
     let p = asked-prefixes refl (k, h) in rw (number-is b T i (p .1)) (omega (arith, buckets-le (length T) b (omega arith)))
-values-small (Handles b) T left right k i h =
+values-small Handles b T left right k i h =
     let p = asked-handles refl (k, h) in
     rw (split-is (delimiters b T) i (p .1)) (omega (arith, split-small b T left right (p .0) i (p .1)))

@@ -30,17 +30,17 @@ handleItems D = listed (length D - 2) (λ i. handleItem D (handleSplit D i))
 unfoldable pub handleSplits : List ℕ → List ℕ
 handleSplits D = listed (length D - 2) (handleSplit D)
 
--- the items of a map; map 3 is that of the last keys of buckets of b rows, of the whole table with b = 1
-unfoldable pub itemsOf : Items → List ℕ → List ℕ
-itemsOf (Keys b) T = T
-itemsOf (Prefixes b) T = prefixItems b T
-itemsOf (Handles b) T = handleItems (delimiters b T)
+-- the items of a map over buckets of b rows; map 3 is that of their last keys, of the whole table with b = 1
+unfoldable pub itemsOf : Items → ℕ → List ℕ → List ℕ
+itemsOf Keys b T = T
+itemsOf Prefixes b T = prefixItems b T
+itemsOf Handles b T = handleItems (delimiters b T)
 
 -- and their values
-unfoldable pub valuesOf : Items → List ℕ → List ℕ
-valuesOf (Keys b) T = keyValues b T
-valuesOf (Prefixes b) T = bucketNumbers b T
-valuesOf (Handles b) T = handleSplits (delimiters b T)
+unfoldable pub valuesOf : Items → ℕ → List ℕ → List ℕ
+valuesOf Keys b T = keyValues b T
+valuesOf Prefixes b T = bucketNumbers b T
+valuesOf Handles b T = handleSplits (delimiters b T)
 
 -- what maps 1 and 2 are built from: a table, and a bucket size within its limits
 pub record Sorted (b : ℕ) (T : List ℕ) : Type 0 where
@@ -59,11 +59,11 @@ pub record Bounds (b : ℕ) (T left right : List ℕ) : Type 0 where
   pub right-is : (m : ℕ) → m < length (delimiters b T) → getD right m 0 ≡ rightEntry (delimiters b T) m
 
 -- what a map is built from
-abbrev pub Source : Items → List ℕ → List ℕ → List ℕ → Type 0
-Source (Keys b) T left right = Sorted b T
-Source (Prefixes b) T left right = Sorted b T
-Source (Handles b) T left right = Bounds b T left right
+abbrev pub Source : Items → ℕ → List ℕ → List ℕ → List ℕ → Type 0
+Source Keys b T left right = Sorted b T
+Source Prefixes b T left right = Sorted b T
+Source Handles b T left right = Bounds b T left right
 
 -- it is there where the items of the map are asked for
-pub record Known (w : Items) (T left right : List ℕ) : Type 0 where
-  pub source : Source w T left right
+pub record Known (w : Items) (b : ℕ) (T left right : List ℕ) : Type 0 where
+  pub source : Source w b T left right

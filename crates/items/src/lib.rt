@@ -18,14 +18,14 @@ use tables::delimiter::delimiter_count;
 use tables::lengths::handle_count;
 use words::prefix::prefix_item;
 
-// The map whose items are meant.
+// The map whose items are meant. The bucket size stands beside it: then nothing of which map it is goes through memory for each item.
 pub enum Items {
-    // Map 1, on the keys, in buckets of so many rows.
-    Keys(usize),
-    // Map 2, on the prefixes of the buckets of so many rows.
-    Prefixes(usize),
-    // Map 3, on the handles of the splits of the last keys of buckets of so many rows; of the whole table, with buckets of one row.
-    Handles(usize),
+    // Map 1, on the keys.
+    Keys,
+    // Map 2, on the prefixes of the buckets.
+    Prefixes,
+    // Map 3, on the handles of the splits of the last keys of buckets; of the whole table, with buckets of one row.
+    Handles,
 }
 
 // The value of row r in map 1: 256 times the length of its bucket, and its offset there.
@@ -63,38 +63,38 @@ fn handle_at(keys: &[u64], b: usize, left: &[u16], right: &[u16], i: usize) -> u
     handle_item(keys, b, left, right, split_at(left, i))
 }
 
-// How many items the map has.
-pub fn item_count(which: Items, keys: &[u64], left: &[u16], right: &[u16]) -> usize
-    requires { ⌜ Known which (now keys) (now left) (now right) ⌝ }
-    ensures { λ r. ⌜ (r ≡ length (itemsOf which (now (keys .entry)))) × (r ≤ 32768) ⌝ }
+// How many items the map has, with buckets of b rows.
+pub fn item_count(which: Items, b: usize, keys: &[u64], left: &[u16], right: &[u16]) -> usize
+    requires { ⌜ Known which b (now keys) (now left) (now right) ⌝ }
+    ensures { λ r. ⌜ (r ≡ length (itemsOf which b (now (keys .entry)))) × (r ≤ 32768) ⌝ }
 {
     match which {
-        Items::Keys(_) => keys.len(),
-        Items::Prefixes(b) => bucket_count(keys.len(), b),
-        Items::Handles(b) => handle_count(delimiter_count(keys, b)),
+        Items::Keys => keys.len(),
+        Items::Prefixes => bucket_count(keys.len(), b),
+        Items::Handles => handle_count(delimiter_count(keys, b)),
     }
 }
 
 // Item i.
-pub fn item_at(which: Items, keys: &[u64], left: &[u16], right: &[u16], i: usize) -> u64
-    requires { ⌜ Known which (now keys) (now left) (now right) × (i < length (itemsOf which (now keys))) ⌝ }
-    ensures { λ r. ⌜ r ≡ getD (itemsOf which (now (keys .entry))) i 0 ⌝ }
+pub fn item_at(which: Items, b: usize, keys: &[u64], left: &[u16], right: &[u16], i: usize) -> u64
+    requires { ⌜ Known which b (now keys) (now left) (now right) × (i < length (itemsOf which b (now keys))) ⌝ }
+    ensures { λ r. ⌜ r ≡ getD (itemsOf which b (now (keys .entry))) i 0 ⌝ }
 {
     match which {
-        Items::Keys(_) => keys[i],
-        Items::Prefixes(b) => prefix_at(keys, b, i),
-        Items::Handles(b) => handle_at(keys, b, left, right, i),
+        Items::Keys => keys[i],
+        Items::Prefixes => prefix_at(keys, b, i),
+        Items::Handles => handle_at(keys, b, left, right, i),
     }
 }
 
 // The value of item i.
-pub fn value_at(which: Items, keys: &[u64], left: &[u16], right: &[u16], i: usize) -> u16
-    requires { ⌜ Known which (now keys) (now left) (now right) × (i < length (itemsOf which (now keys))) ⌝ }
-    ensures { λ r. ⌜ r ≡ getD (valuesOf which (now (keys .entry))) i 0 ⌝ }
+pub fn value_at(which: Items, b: usize, keys: &[u64], left: &[u16], right: &[u16], i: usize) -> u16
+    requires { ⌜ Known which b (now keys) (now left) (now right) × (i < length (itemsOf which b (now keys))) ⌝ }
+    ensures { λ r. ⌜ r ≡ getD (valuesOf which b (now (keys .entry))) i 0 ⌝ }
 {
     match which {
-        Items::Keys(b) => key_value(keys, b, i),
-        Items::Prefixes(_) => i as u16,
-        Items::Handles(_) => split_at(left, i) as u16,
+        Items::Keys => key_value(keys, b, i),
+        Items::Prefixes => i as u16,
+        Items::Handles => split_at(left, i) as u16,
     }
 }

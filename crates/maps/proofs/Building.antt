@@ -86,21 +86,21 @@ work-size : (m t n : ℕ) → m ≡ segment t → t ≡ n → 6 * m + 2 * t ≡ 
 work-size m t n em et = rw (em, et) (omega arith)
 
 -- the named lengths, in the map's sizes
-pub room-cells : {map : Map} {keys left right cells work : List ℕ} → Ready map keys left right → Room (itemsOf (map .which) keys) cells work
+pub room-cells : {map : Map} {keys left right cells work : List ℕ} → Ready map keys left right → Room (itemsOf (map .which) (map .b) keys) cells work
     → 3 * map .m ≤ length cells
 room-cells R room = rw (R .size, R .all) (room .forCells)
 
-pub room-work : {map : Map} {keys left right cells work : List ℕ} → Ready map keys left right → Room (itemsOf (map .which) keys) cells work
+pub room-work : {map : Map} {keys left right cells work : List ℕ} → Ready map keys left right → Room (itemsOf (map .which) (map .b) keys) cells work
     → 6 * map .m + 2 * map .t ≤ length work
-room-work {map} {keys} R room = rw (work-size (map .m) (map .t) (length (itemsOf (map .which) keys)) (R .size) (R .all)) (room .forWork)
+room-work {map} {keys} R room = rw (work-size (map .m) (map .t) (length (itemsOf (map .which) (map .b) keys)) (R .size) (R .all)) (room .forWork)
 
 pub built : {map : Map} {keys left right : List ℕ} {a a₁ b u w v : List ℕ} {n : ℕ} (seed : ℕ) → map .mixed ≡ mixedSeed seed → a₁ ≡ cleared (3 * map .m) a → length a₁ ≡ length a
     → Queued map keys left right u w n n → length w ≡ length u → v ≡ cleared (6 * map .m + 2 * map .t) w → Ended map keys n a₁ b
-    → MapBuilt (map .which) seed keys a u (map .t - n) b v
+    → MapBuilt (map .which) (map .b) seed keys a u (map .t - n) b v
 unfolding Valued Clean valueOf valueAt
 built {map} {keys} {a = a} {a₁} {b} {u} {w} {v} {n} seed es z l O lw y E =
-    let items : List ℕ = itemsOf (map .which) keys in
-    let values : List ℕ = valuesOf (map .which) keys in
+    let items : List ℕ = itemsOf (map .which) (map .b) keys in
+    let values : List ℕ = valuesOf (map .which) (map .b) keys in
     let em : map .m ≡ segment (map .t) = O .turn .ready .size in
     let et : map .t ≡ length items = O .turn .ready .all in
     let z′ : a₁ ≡ cleared (cellCount (length items)) a = rw (em, et) at z in

@@ -31,6 +31,6 @@ pub record Built (seed : ℕ) (items values cells work : List ℕ) (size : ℕ) 
   pub refused : 0 < size → LargestJam seed items size × (cells′ ≡ cleared (cellCount (length items)) cells)
   pub swept : work′ ≡ cleared (workCount (length items)) work
 
--- the same for the items and values that `which` names of a table T
-abbrev pub MapBuilt : Items → ℕ → List ℕ → List ℕ → List ℕ → ℕ → List ℕ → List ℕ → Type 0
-MapBuilt which seed T cells work size cells′ work′ = Built seed (itemsOf which T) (valuesOf which T) cells work size cells′ work′
+-- the same for the items and values that `which` names of a table T in buckets of b rows
+abbrev pub MapBuilt : Items → ℕ → ℕ → List ℕ → List ℕ → List ℕ → ℕ → List ℕ → List ℕ → Type 0
+MapBuilt which b seed T cells work size cells′ work′ = Built seed (itemsOf which b T) (valuesOf which b T) cells work size cells′ work′

@@ -3,19 +3,29 @@
 ghost use mathlib.Core.Path.{_≡_};
 ghost use Prim.Native.Nat.{ℕ, _+_, _*_, _<_, _≤_};
 ghost use lib.ListN.{length, getD};
+ghost use Rattle.words.specs.Inner.{mixedHash};
+ghost use Rattle.items.specs.Items.{itemsOf, Known};
 ghost use Rattle.maps.specs.Jam.{Touches};
 ghost use Rattle.maps.specs.Inner.Work.{PutAt, Put, Blank};
-ghost use Rattle.maps.specs.Inner.Ready.{hashOf, graph, cellsOf, Spread, CellsAt, Ready, Counted};
+ghost use Rattle.maps.specs.Inner.Ready.{graph, cellsOf, Spread, CellsAt, Ready, Counted};
 use crate::Map;
 use crate::Touched;
+use items::Items;
 
-// The hash of item i.
-pub fn hash_at(map: Map, keys: &[u64], left: &[u16], right: &[u16], i: usize) -> u64
-    requires { ⌜ Ready map (now keys) (now left) (now right) × (i < map .t) ⌝ }
-    ensures { λ r. ⌜ r ≡ hashOf map (now (keys .entry)) i ⌝ }
+// The hash of item i. It is too long to be put into the loops that call it, and takes numbers: a struct would be copied for each call.
+pub fn hash_at(
+    which: Items,
+    b: usize,
+    mixed: u64,
+    keys: &[u64],
+    left: &[u16],
+    right: &[u16],
+    i: usize,
+) -> u64
+    requires { ⌜ Known which b (now keys) (now left) (now right) × (i < length (itemsOf which b (now keys))) ⌝ }
+    ensures { λ r. ⌜ r ≡ mixedHash (getD (itemsOf which b (now (keys .entry))) i 0) mixed ⌝ }
 {
-    let which = map.which;
-    words::hash::mixed_hash(items::item_at(which, keys, left, right, i), map.mixed)
+    words::hash::mixed_hash(items::item_at(which, b, keys, left, right, i), mixed)
 }
 
 // The cells that item i touches.
@@ -23,9 +33,10 @@ pub fn cells_at(map: Map, keys: &[u64], left: &[u16], right: &[u16], i: usize) -
     requires { ⌜ Ready map (now keys) (now left) (now right) × (i < map .t) ⌝ }
     ensures { λ r. ⌜ CellsAt (graph map (now (keys .entry))) (3 * map .m) i r ⌝ }
 {
+    let which = map.which;
     let m = map.m;
     let r = map.r;
-    let h = hash_at(map, keys, left, right, i);
+    let h = hash_at(which, map.b, map.mixed, keys, left, right, i);
     Touched {
         first: cells::cell_from(h, m, r, 0),
         second: cells::cell_from(h, m, r, 1),

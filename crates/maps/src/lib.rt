@@ -9,10 +9,11 @@ mod peel;
 
 use items::Items;
 
-// A map that is being built: its items, their mixed seed, the size m of its segments with its reciprocal r, and the number t of
-// its items.
+// A map that is being built: its items over buckets of b rows, their mixed seed, the size m of its segments with its reciprocal r, and
+// the number t of its items.
 struct Map {
     pub which: Items,
+    pub b: usize,
     pub mixed: u64,
     pub m: usize,
     pub r: u64,

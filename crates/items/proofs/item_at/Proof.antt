@@ -9,26 +9,17 @@ use Rattle.items.proofs.Sources.{asked-keys, asked-prefixes, asked-hand
 use Rattle.items.proofs.item_at.Statement.{statement}
 use Rattle.items.proofs.item_at.Tie as tie
 
-enum-told : tie.Need-enum-told
-enum-told c = search needs
-
 mul-result : tie.Need-mul-result
 mul-result c = let k = asked-keys (c .enum-told .given .1) (c .before .before .before .before .before .pre) in omega arith
 
 shared-slice-read-result : tie.Need-shared-slice-read-result
 shared-slice-read-result c = asked-keys (c .before .enum-told .given .1) (c .before .before .before .before .before .before .pre) .1
 
-enum-known-which : tie.Need-enum-known-which
-enum-known-which c = search needs
-
 prefix-at-requires : tie.Need-prefix-at-requires
-prefix-at-requires c κs = asked-prefixes (c .before .which .given .1) (c .before .before .before .before .before .before .pre)
-
-enum-known-which-2 : tie.Need-enum-known-which-2
-enum-known-which-2 c = search needs
+prefix-at-requires c κs = asked-prefixes (c .enum-told2 .given .1) (c .before .before .before .before .before .pre)
 
 handle-at-requires : tie.Need-handle-at-requires
-handle-at-requires c κs = asked-handles (c .before .which2 .given .1) (c .before .before .before .before .before .before .pre)
+handle-at-requires c κs = asked-handles (c .enum-told3 .given .1) (c .before .before .before .before .before .pre)
 
 returns : tie.Need-returns
 unfolding itemsOf
@@ -37,30 +28,27 @@ returns c = rw (c .before .enum-told .given .1)
 returns-2 : tie.Need-returns-2
 unfolding itemsOf
 returns-2 c =
-    let s = c .before .before .before .before .before .before .before in
-    let is = c .before .before .which .given in
-    let item = prefix-is (is .0 .0) (s .args .keys .now) (s .args .i) (asked-prefixes (is .1) (s .pre) .1) in
-    rw (is .1, item) (c .prefix-at .ensures)
+    let s = c .before .before .before .before .before .before in
+    let is = c .before .enum-told2 .given .1 in
+    rw (is, prefix-is (s .args .b) (s .args .keys .now) (s .args .i) (asked-prefixes is (s .pre) .1)) (c .prefix-at .ensures)
 
 returns-3 : tie.Need-returns-3
 unfolding itemsOf
 returns-3 c =
-    let s = c .before .before .before .before .before .before .before in
-    let is = c .before .before .which2 .given in
-    let D = delimiters (is .0 .0) (s .args .keys .now) in
-    let item = handle-is D (s .args .i) (asked-handles (is .1) (s .pre) .1) in
-    rw (is .1, item) (c .handle-at .ensures)
+    let s = c .before .before .before .before .before .before in
+    let is = c .before .enum-told3 .given .1 in
+    rw (is, handle-is (delimiters (s .args .b) (s .args .keys .now)) (s .args .i) (asked-handles is (s .pre) .1)) (c .handle-at .ensures)
 
 pub item-at-spec : {M : Type 1} → statement M
 item-at-spec =
     tie.close
     (tie.spec
-    enum-told
+    (λ c. search needs)
     mul-result
     shared-slice-read-result
-    enum-known-which
+    (λ c. search needs)
     prefix-at-requires
-    enum-known-which-2
+    (λ c. search needs)
     handle-at-requires
     returns
     returns-2

@@ -10,25 +10,13 @@ use Rattle.items.proofs.Sources.{known-keys, known-prefixes, known-hand
 use Rattle.items.proofs.item_count.Statement.{statement}
 use Rattle.items.proofs.item_count.Tie as tie
 
-enum-told : tie.Need-enum-told
-enum-told c = search needs
-
-enum-known-which : tie.Need-enum-known-which
-enum-known-which c = search needs
-
 bucket-count-requires : tie.Need-bucket-count-requires
 bucket-count-requires c κs =
-    let k = known-prefixes (c .before .which .given .1) (c .before .before .before .before .before .before .pre) in
+    let k = known-prefixes (c .enum-told2 .given .1) (c .before .before .before .before .before .pre) in
     (omega arith, k .most, k .few)
 
-enum-known-which-2 : tie.Need-enum-known-which-2
-enum-known-which-2 c = search needs
-
 delimiter-count-requires : tie.Need-delimiter-count-requires
-delimiter-count-requires c κs = known-handles (c .before .which2 .given .1) (c .before .before .before .before .before .before .pre) .bucketed
-
-handle-count-requires : tie.Need-handle-count-requires
-handle-count-requires c κs = search needs
+delimiter-count-requires c κs = known-handles (c .enum-told3 .given .1) (c .before .before .before .before .before .pre) .bucketed
 
 returns : tie.Need-returns
 unfolding itemsOf
@@ -39,31 +27,31 @@ returns c =
 returns-2 : tie.Need-returns-2
 unfolding itemsOf
 returns-2 c =
-    let s = c .before .before .before .before .before .before .before in
-    let is = c .before .before .which .given in
-    let k = known-prefixes (is .1) (s .pre) in
-    rw (is .1) (c .bucket-count .ensures .0 ∙ sym (length-prefixes (is .0 .0) (s .args .keys .now)), omega arith)
+    let s = c .before .before .before .before .before .before in
+    let is = c .before .enum-told2 .given .1 in
+    let k = known-prefixes is (s .pre) in
+    rw is (c .bucket-count .ensures .0 ∙ sym (length-prefixes (s .args .b) (s .args .keys .now)), omega arith)
 
 returns-3 : tie.Need-returns-3
 unfolding itemsOf
 returns-3 c =
-    let s = c .before .before .before .before .before .before .before .before in
-    let is = c .before .before .before .which2 .given in
-    let k = known-handles (is .1) (s .pre) in
-    let D = delimiters (is .0 .0) (s .args .keys .now) in
-    let few = delimiters-few (is .0 .0) (s .args .keys .now) (s .args .left .now) (s .args .right .now) k in
-    rw (is .1) (omega (arith, length-handles D), omega (arith, length-handles D))
+    let s = c .before .before .before .before .before .before .before in
+    let is = c .before .before .enum-told3 .given .1 in
+    let k = known-handles is (s .pre) in
+    let D = delimiters (s .args .b) (s .args .keys .now) in
+    let few = delimiters-few (s .args .b) (s .args .keys .now) (s .args .left .now) (s .args .right .now) k in
+    rw is (omega (arith, length-handles D), omega (arith, length-handles D))
 
 pub item-count-spec : {M : Type 1} → statement M
 item-count-spec =
     tie.close
     (tie.spec
-    enum-told
-    enum-known-which
+    (λ c. search needs)
+    (λ c. search needs)
     bucket-count-requires
-    enum-known-which-2
+    (λ c. search needs)
     delimiter-count-requires
-    handle-count-requires
+    (λ c κs. search needs)
     returns
     returns-2
     returns-3)

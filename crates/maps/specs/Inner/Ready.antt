@@ -15,7 +15,7 @@ use Rattle.maps.specs.Inner.Fill.{fix, Valued, Clean}
 
 -- the hash of item i
 abbrev pub hashOf : Map → List ℕ → ℕ → ℕ
-hashOf map keys i = mixedHash (getD (itemsOf (map .which) keys) i 0) (map .mixed)
+hashOf map keys i = mixedHash (getD (itemsOf (map .which) (map .b) keys) i 0) (map .mixed)
 
 -- the cell that item i touches in segment j
 abbrev pub graph : Map → List ℕ → ℕ → ℕ → ℕ
@@ -23,12 +23,12 @@ graph map keys j i = cellOf (map .m) j (hashOf map keys i)
 
 -- the wanted value of item i
 abbrev pub wanted : Map → List ℕ → ℕ → ℕ
-wanted map keys i = getD (valuesOf (map .which) keys) i 0
+wanted map keys i = getD (valuesOf (map .which) (map .b) keys) i 0
 
 -- the map's items can be read, and its sizes are theirs
 pub record Ready (map : Map) (keys left right : List ℕ) : Type 0 where
-  pub known : Known (map .which) keys left right
-  pub all : map .t ≡ length (itemsOf (map .which) keys)
+  pub known : Known (map .which) (map .b) keys left right
+  pub all : map .t ≡ length (itemsOf (map .which) (map .b) keys)
   pub few : map .t ≤ 32768
   pub size : map .m ≡ segment (map .t)
   pub fits : Segment (map .m)

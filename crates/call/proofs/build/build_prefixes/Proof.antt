@@ -58,7 +58,7 @@ returns c =
     let n = l .before .before .before .before .before in
     let s = n .before .before .before .before in
     prefixes-built (s .args .keys .now) (s .args .b) (s .args .cells .now) (s .args .work .now) (s .pre)
-    (n .cell-count .result) (n .cell-count .ensures .0) (s .args .seed2) (l .build .last .1 .1 .1 .1 .1 .0) (l .build .last .1 .1 .1 .1 .1 .1 .0) (l .build .result) (l .build .ensures)
+    (n .cell-count .result) (n .cell-count .ensures .0) (s .args .seed2) (l .build .last .1 .1 .1 .1 .1 .1 .0) (l .build .last .1 .1 .1 .1 .1 .1 .1 .0) (l .build .result) (l .build .ensures)
 
 pub build-prefixes-spec : {M : Type 1} → statement M
 build-prefixes-spec =

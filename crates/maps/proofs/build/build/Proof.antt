@@ -26,6 +26,7 @@ abbrev map : tie.After-clear → Map
 map k =
     record {
       which = start k .args .which;
+      b = start k .args .b;
       mixed = k .before .before .before .mix-seed .result;
       m = k .before .before .before .before .segment-size .result;
       r = k .before .before .reciprocal .result;

@@ -4,6 +4,8 @@ use mathlib.Core.Path.{refl}
 use Prim.Native.Nat.{ℕ, _*_, _≤_, _<_}
 use native.Mathlib.Omega.{arith}
 use denote.Ref.{now}
+use lib.ListN.{length}
+use Rattle.items.specs.Items.{itemsOf, Known}
 use Rattle.maps.specs.Inner.Work.{mark, turnItem, turnCell}
 use Rattle.maps.proofs.Peeling.{turn-marked}
 use Rattle.maps.proofs.Filling.{store-fixes, cell-below}
@@ -34,6 +36,12 @@ marked s =
     let some = turn-marked (s .args .p) (s .pre .0 .peeled) (s .pre .2) in
     (some, omega (arith, below s .1))
 
+-- the item can be asked for
+asked : (s : tie.Start)
+    → Known (s .args .map .which) (s .args .map .b) (now (s .args .keys)) (now (s .args .left)) (now (s .args .right))
+    × (I s < length (itemsOf (s .args .map .which) (s .args .map .b) (now (s .args .keys))))
+asked s = (s .pre .0 .ready .known, omega (arith, below s .0, s .pre .0 .ready .all))
+
 cast-i : tie.Need-cast-i
 cast-i c = omega (arith, below (start (c .before)) .0, start (c .before) .pre .0 .ready .few)
 
@@ -53,9 +61,7 @@ sub-c : tie.Need-sub-c
 sub-c c = omega (arith, marked (start (c .before .before)))
 
 hash-at-requires : tie.Need-hash-at-requires
-hash-at-requires c κs =
-    let s = start (c .before .before .before) in
-    (s .pre .0 .ready, below s .0)
+hash-at-requires c κs = asked (start (c .before .before))
 
 mul-cells : tie.Need-mul-cells
 mul-cells c = omega (arith, below (start (c .before .before .before .before .before)))
@@ -64,9 +70,7 @@ slice-read-cells : tie.Need-slice-read-cells
 slice-read-cells c = omega (arith, below (start (c .before .before .before .before .before .before)))
 
 value-at-requires : tie.Need-value-at-requires
-value-at-requires c κs =
-    let s = start (c .before .before .before .before .before .before) in
-    (s .pre .0 .ready .known, omega (arith, below s, s .pre .0 .ready .all))
+value-at-requires c κs = asked (start (c .before .before .before .before .before .before))
 
 mul-cells-2 : tie.Need-mul-cells-2
 mul-cells-2 c = omega (arith, below (start (c .before .before .before .before .before .before .before)))
@@ -76,8 +80,8 @@ slice-write-cells c = omega (arith, below (start (c .before .before .before .bef
 
 returns : tie.Need-returns
 returns c =
-    let hashed = c .before .before .before in
-    let s = start (hashed .before .before .before .before) in
+    let hashed = c .before .before .before .before in
+    let s = start (hashed .before .before .before) in
     store-fixes (s .args .map) (now (s .args .keys)) (now (s .args .work)) (now (s .args .cells)) (s .args .p) (I s) (C s)
     (hashed .hash-at .result) (c .before .before .value-from .result) (c .value-at .result)
     refl refl (hashed .hash-at .ensures) (c .before .before .value-from .ensures) (c .value-at .ensures)

@@ -70,7 +70,7 @@ returns c =
     let s = e .before .before .before .before .before .before .before .before in
     let d = c .before .before .before .before .before .before .before .before .delimiter-count .ensures .0 in
     stores-jammed (delimiters (s .args .b) (s .args .keys .now)) (s .args .seed3) (s .args .handles .now) (s .args .left .now) (s .args .right .now) (s .args .work .now)
-    (m .build .last .1 .1 .1 .1 .1 .0) (m .build .last .1 .1 .1 .1 .1 .1 .0) (m .build .result) (m .build .ensures) (t .if1 .taken)
+    (m .build .last .1 .1 .1 .1 .1 .1 .0) (m .build .last .1 .1 .1 .1 .1 .1 .1 .0) (m .build .result) (m .build .ensures) (t .if1 .taken)
     (e .build-bounds .last .1 .1 .0) (e .build-bounds .last .1 .1 .1 .0) (c .before .before .before .before .before .before .clear .last .0) (c .before .before .clear2 .last .0)
     (e .build-bounds .ensures .0) (e .build-bounds .ensures .1) (c .before .before .before .before .before .before .clear .ensures ∙ ap (λ (n : ℕ). cleared n (e .build-bounds .last .1 .1 .0)) d) (c .before .before .clear2 .ensures ∙ ap (λ (n : ℕ). cleared n (e .build-bounds .last .1 .1 .1 .0)) d)
 
@@ -93,7 +93,7 @@ returns-2 c =
     let e = m .before .before .before .before .before .before .before .before .before in
     let s = e .before .before .before .before .before .before .before .before in
     stores-filled (delimiters (s .args .b) (s .args .keys .now)) (s .args .seed3) (s .args .handles .now) (s .args .left .now) (s .args .right .now) (s .args .work .now)
-    (m .build .last .1 .1 .1 .1 .1 .0) (m .build .last .1 .1 .1 .1 .1 .1 .0) (m .build .result) (m .build .ensures) (omega (arith, c .if1 .left))
+    (m .build .last .1 .1 .1 .1 .1 .1 .0) (m .build .last .1 .1 .1 .1 .1 .1 .1 .0) (m .build .result) (m .build .ensures) (omega (arith, c .if1 .left))
     (e .build-bounds .last .1 .1 .0) (e .build-bounds .last .1 .1 .1 .0) (e .build-bounds .ensures .0) (e .build-bounds .ensures .1)
 
 pub build-stores-spec : {M : Type 1} → statement M
