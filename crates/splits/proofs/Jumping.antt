@@ -11,7 +11,7 @@ use lib.ListN.{length}
 use Rattle.tables.specs.Tables.{keyAt, Table}
 use Rattle.splits.specs.Splits.{len, left, right, leftEntry, rightEntry}
 use Rattle.splits.specs.Inner.{goesOn}
-use Rattle.splits.proofs.Bools.{both, by-test}
+use Rattle.splits.proofs.Bools.{both}
 use Rattle.splits.proofs.Rows.{share-down, len-lt, len-iff, neighbours, rows-below, rows-above, rows-own, left-lt, right-gt, right-le}
 use Rattle.splits.proofs.Parents.{left-split, right-split}
 
@@ -24,9 +24,6 @@ goes-true T j l e =
 
 pub goes-false : (T : List ℕ) (j l : ℕ) → goesOn T j l ≡ false → 0 < j → j < length T → len T j < l
 goes-false T j l e h g = leb-false l (len T j) (rw (le-leb 1 j h, lt-ltb j (length T) g) at e)
-
-pub goes-not : (T : List ℕ) (j l : ℕ) → (0 < j → j < length T → ⊥) → false ≡ goesOn T j l
-goes-not T j l fails = by-test (goesOn T j l) (λ e. let p = goes-true T j l e in absurd (fails (p .0) (p .1))) sym
 
 pub goes-last : (T : List ℕ) (j l : ℕ) → 0 < j → j < length T → leb l (len T j) ≡ goesOn T j l
 goes-last T j l h g = rw (le-leb 1 j h, lt-ltb j (length T) g)

@@ -108,6 +108,10 @@ pub right-split : (T : List ℕ) (m : ℕ) → 0 < m → rightEntry T m ≡ righ
 unfolding rightEntry
 right-split T m h = rw (ne-eqb m 0 (λ z. omega arith))
 
+-- the length of a row that is a split
+pub len-split : (T : List ℕ) (j : ℕ) → 0 < j → j < length T → len T j ≡ lenOrZero T j
+len-split T j h g = rw (le-leb 1 j h, lt-ltb j (length T) g)
+
 -- the parent's length
 pub parent-left : (T : List ℕ) (m : ℕ) → 0 < left T m → len T (left T m) ≤ parentLen T m
 unfolding parentLen
@@ -161,11 +165,14 @@ module _ (T : List ℕ) (t : Table T) where
       let some : ¬ (len T m ≤ len T (root T)) = λ g. other (root-only m pos small g) in
       parent-lt T m (len T m) (omega arith) (left-len T t m pos small) (right-len T t m pos small)
 
+  -- the first of m's rows stands before m, so it is one of the table's, and the row after the last stands after m, so it isn't row 0
+  pub ends-apart : (m : ℕ) → 0 < m → m < length T → (leftEntry T m < length T) × (0 < rightEntry T m)
+  ends-apart m pos small = rw (left-split T m pos, right-split T m pos) (omega (arith, left-lt T t m pos small, right-gt T t m pos small))
+
   -- the parent's length by the entries of the stores: an entry that is no split counts 0
   pub parent-by : (m : ℕ) → 0 < m → m < length T → max (lenOrZero T (leftEntry T m)) (lenOrZero T (rightEntry T m)) ≡ parentLen T m
   unfolding parentLen
   parent-by m pos small =
-      let lt = left-lt T t m pos small in
-      let gt = right-gt T t m pos small in
-      rw (left-split T m pos, right-split T m pos, lt-ltb (left T m) (length T) (omega arith), le-leb 1 (right T m) (omega arith))
+      let ends = ends-apart m pos small in
+      rw (lt-ltb (leftEntry T m) (length T) (ends .0), le-leb 1 (rightEntry T m) (ends .1), left-split T m pos, right-split T m pos)
       (rw (and-true (leb 1 (left T m))))

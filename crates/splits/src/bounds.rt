@@ -16,14 +16,23 @@ struct Shortest {
     bits: u32,
 }
 
-// Whether row j is a split with a string of l bits or more, which lies within the rows of a split beside it whose string has l bits.
-fn inside(keys: &[u64], b: usize, n: usize, j: usize, l: u32) -> bool
-    requires { ⌜ Counted b (now keys) n ⌝ }
+// Whether row j, beside a later split whose string has l bits, is a split with l bits or more and so lies within the rows of that one.
+// A row before another is a split unless it is row 0.
+fn goes_on_left(keys: &[u64], b: usize, j: usize, l: u32) -> bool
+    requires { ⌜ Bucketed b (now keys) × (j < length (delimiters b (now keys))) ⌝ }
     ensures { λ r. ⌜ r ≡ goesOn (delimiters b (now (keys .entry))) j l ⌝ }
 {
-    if j < 1 {
+    if j == 0 {
         return false;
     }
+    l <= len_at(keys, b, j)
+}
+
+// The same of row j beside an earlier split. A row after another is a split unless it is beyond the last.
+fn goes_on_right(keys: &[u64], b: usize, n: usize, j: usize, l: u32) -> bool
+    requires { ⌜ Counted b (now keys) n × (0 < j) ⌝ }
+    ensures { λ r. ⌜ r ≡ goesOn (delimiters b (now (keys .entry))) j l ⌝ }
+{
     if j >= n {
         return false;
     }
@@ -31,13 +40,13 @@ fn inside(keys: &[u64], b: usize, n: usize, j: usize, l: u32) -> bool
 }
 
 // The first row of split m, by the first rows of the splits before it.
-fn jump_left(keys: &[u64], b: usize, n: usize, left: &[u16], m: usize) -> usize
-    requires { ⌜ Rising b (now keys) m × Counted b (now keys) n × Holds (leftEntry (delimiters b (now keys))) 1 m (now left) ⌝ }
+fn jump_left(keys: &[u64], b: usize, left: &[u16], m: usize) -> usize
+    requires { ⌜ Rising b (now keys) m × Holds (leftEntry (delimiters b (now keys))) 1 m (now left) ⌝ }
     ensures { λ r. ⌜ (r ≡ leftEntry (delimiters b (now (keys .entry))) m) × (r < m) ⌝ }
 {
     let l = len_at(keys, b, m);
     let mut j = m - 1;
-    while inside(keys, b, n, j, l) {
+    while goes_on_left(keys, b, j, l) {
         j = entry_at(left, j);
     }
     j
@@ -50,7 +59,7 @@ fn jump_right(keys: &[u64], b: usize, n: usize, right: &[u16], m: usize) -> usiz
 {
     let l = len_at(keys, b, m);
     let mut j = m + 1;
-    while inside(keys, b, n, j, l) {
+    while goes_on_right(keys, b, n, j, l) {
         j = entry_at(right, j);
     }
     j
@@ -63,7 +72,7 @@ fn fill_left(keys: &[u64], b: usize, n: usize, left: &mut [u16])
 {
     let mut m = 1;
     while m < n {
-        let j = jump_left(keys, b, n, left, m);
+        let j = jump_left(keys, b, left, m);
         left[m] = j as u16;
         m += 1;
     }

@@ -2,7 +2,7 @@
 ghost use mathlib.Core.Path.{_≡_};
 ghost use Prim.Native.Nat.{_<_, max};
 ghost use lib.ListN.{length, getD};
-ghost use Rattle.tables.specs.Delimiters.{delimiters};
+ghost use Rattle.tables.specs.Delimiters.{delimiters, Bucketed};
 ghost use Rattle.splits.specs.Splits.{len, root, parentLen, handleItem, splitBeside};
 ghost use Rattle.splits.specs.Inner.{SplitOf, Counted, Bounded, lenOrZero};
 use tables::delimiter::delimiter_at;
@@ -38,14 +38,22 @@ pub fn handle_split(root: usize, i: usize) -> usize
     i + 2
 }
 
-// The length of split j, 0 where row j is none.
-fn len_or_zero(keys: &[u64], b: usize, n: usize, j: usize) -> u32
-    requires { ⌜ Counted b (now keys) n ⌝ }
+// The length of split j, 0 for row 0: what the first row of a split says of its parent.
+fn len_of_first(keys: &[u64], b: usize, j: usize) -> u32
+    requires { ⌜ Bucketed b (now keys) × (j < length (delimiters b (now keys))) ⌝ }
     ensures { λ r. ⌜ r ≡ lenOrZero (delimiters b (now (keys .entry))) j ⌝ }
 {
-    if j < 1 {
+    if j == 0 {
         return 0;
     }
+    len_at(keys, b, j)
+}
+
+// The length of split j, 0 where row j is beyond the last: what the row after a split's last says of its parent.
+fn len_of_end(keys: &[u64], b: usize, n: usize, j: usize) -> u32
+    requires { ⌜ Counted b (now keys) n × (0 < j) ⌝ }
+    ensures { λ r. ⌜ r ≡ lenOrZero (delimiters b (now (keys .entry))) j ⌝ }
+{
     if j >= n {
         return 0;
     }
@@ -69,7 +77,7 @@ pub fn parent_len(keys: &[u64], b: usize, left: &[u16], right: &[u16], m: usize)
     let n = delimiter_count(keys, b);
     let first = entry_at(left, m);
     let end = entry_at(right, m);
-    larger(len_or_zero(keys, b, n, first), len_or_zero(keys, b, n, end))
+    larger(len_of_first(keys, b, first), len_of_end(keys, b, n, end))
 }
 
 // The handle of split m, a split other than the root, read from the stores.

@@ -27,7 +27,6 @@ jump-left-requires c κs =
     let s = c .before .before .before .before .before in
     let i = c .before .before .loop .inv in (
       record { table = s .pre .0; split = record { bucketed = s .pre .1 .bucketed; pos = i .0; small = omega arith } },
-      s .pre .1,
       record { room = omega arith; entries = i .3 .entries },
     )
 

@@ -11,10 +11,10 @@ use Rattle.splits.proofs.bounds.jump_left.Statement.{statement}
 use Rattle.splits.proofs.bounds.jump_left.Tie as tie
 
 abbrev Inv-loop : tie.InvT-loop
-Inv-loop keys b n lefts m l j₀ j = (j < m) × (left (delimiters b keys) m ≤ j)
+Inv-loop keys b lefts m l j₀ j = (j < m) × (left (delimiters b keys) m ≤ j)
 
 abbrev μ-loop : tie.MeasureT-loop
-μ-loop keys b n lefts m l j₀ j = j
+μ-loop keys b lefts m l j₀ j = j
 
 len-at-requires : tie.Need-len-at-requires Inv-loop μ-loop
 len-at-requires c κs = c .before .before .pre .0 .split
@@ -28,8 +28,8 @@ loop-holds c =
     let split = s .pre .0 .split in
     omega (arith, left-lt (delimiters (s .args .b) (s .args .keys .now)) (s .pre .0 .table) (s .args .m) (split .pos) (split .small))
 
-inside-requires : tie.Need-inside-requires Inv-loop μ-loop
-inside-requires c κs = c .before .before .before .before .pre .1
+goes-on-left-requires : tie.Need-goes-on-left-requires Inv-loop μ-loop
+goes-on-left-requires c κs = (c .before .before .before .before .pre .0 .split .bucketed, omega arith)
 
 entry-at-requires : tie.Need-entry-at-requires Inv-loop μ-loop
 entry-at-requires c κs = omega arith
@@ -44,10 +44,10 @@ went c =
     let j = c .before .before .before .loop .j in
     let i = c .before .before .before .loop .inv in
     let l = c .before .before .before .before .len-at in
-    let on = sym (c .before .before .inside .ensures) ∙ c .before .if1 .taken in
+    let on = sym (c .before .before .goes-on-left .ensures) ∙ c .before .if1 .taken in
     let pos : 0 < j = goes-true T j (l .result) on .0 in
     left-turn T (s .pre .0 .table) (s .args .m) (split .pos) (split .small) j (l .result) (c .entry-at .result) (l .ensures) on (i .0) (i .1)
-    (c .entry-at .ensures ∙ s .pre .2 .entries j pos (i .0))
+    (c .entry-at .ensures ∙ s .pre .1 .entries j pos (i .0))
 
 loop-less : tie.Need-loop-less Inv-loop μ-loop
 loop-less c = went c .0
@@ -61,7 +61,7 @@ returns c =
     let split = s .pre .0 .split in
     let i = c .before .before .loop .inv in
     let l = c .before .before .before .len-at in
-    let off = sym (c .before .inside .ensures) ∙ c .if1 .left in
+    let off = sym (c .before .goes-on-left .ensures) ∙ c .if1 .left in
     let T = delimiters (s .args .b) (s .args .keys .now) in
     (left-stop T (s .pre .0 .table) (s .args .m) (split .pos) (split .small) (c .before .before .loop .j) (l .result) (l .ensures) off (i .0) (i .1), i .0)
 
@@ -74,7 +74,7 @@ jump-left-spec =
     len-at-requires
     sub-j
     loop-holds
-    inside-requires
+    goes-on-left-requires
     entry-at-requires
     loop-less
     loop-again

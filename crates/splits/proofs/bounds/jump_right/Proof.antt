@@ -28,13 +28,13 @@ loop-holds c =
     let split = s .pre .0 .split in
     omega (arith, right-gt (delimiters (s .args .b) (s .args .keys .now)) (s .pre .0 .table) (s .args .m) (split .pos) (split .small))
 
-inside-requires : tie.Need-inside-requires Inv-loop μ-loop
-inside-requires c κs = c .before .before .before .before .pre .1
+goes-on-right-requires : tie.Need-goes-on-right-requires Inv-loop μ-loop
+goes-on-right-requires c κs = (c .before .before .before .before .pre .1, omega arith)
 
 entry-at-requires : tie.Need-entry-at-requires Inv-loop μ-loop
 entry-at-requires c κs =
     let s = c .before .before .before .before .before .before in
-    let go = sym (c .before .inside .ensures) ∙ c .if1 .taken in
+    let go = sym (c .before .goes-on-right .ensures) ∙ c .if1 .taken in
     omega (arith, goes-true (delimiters (s .args .b) (s .args .keys .now)) (c .before .before .loop .j) (c .before .before .before .len-at .result) go .1)
 
 -- where a turn goes
@@ -48,7 +48,7 @@ went c =
     let j = c .before .before .before .loop .j in
     let i = c .before .before .before .loop .inv in
     let l = c .before .before .before .before .len-at in
-    let on = sym (c .before .before .inside .ensures) ∙ c .before .if1 .taken in
+    let on = sym (c .before .before .goes-on-right .ensures) ∙ c .before .if1 .taken in
     let small : j < s .args .n = omega (arith, goes-true T j (l .result) on .1) in
     let turn = right-turn T (s .pre .0 .table) (s .args .m) (split .pos) (split .small) j (l .result) (c .entry-at .result) (l .ensures) on (i .0) (i .1)
     (c .entry-at .ensures ∙ s .pre .2 .entries j (omega arith) small) in
@@ -66,7 +66,7 @@ returns c =
     let split = s .pre .0 .split in
     let i = c .before .before .loop .inv in
     let l = c .before .before .before .len-at in
-    let off = sym (c .before .inside .ensures) ∙ c .if1 .left in
+    let off = sym (c .before .goes-on-right .ensures) ∙ c .if1 .left in
     let T = delimiters (s .args .b) (s .args .keys .now) in (
       right-stop T (s .pre .0 .table) (s .args .m) (split .pos) (split .small) (c .before .before .loop .j) (l .result) (l .ensures) off (i .0) (i .1),
       omega (arith, right-le T (s .pre .0 .table) (s .args .m) (split .pos) (split .small)),
@@ -81,7 +81,7 @@ jump-right-spec =
     len-at-requires
     add-j
     loop-holds
-    inside-requires
+    goes-on-right-requires
     entry-at-requires
     loop-less
     loop-again

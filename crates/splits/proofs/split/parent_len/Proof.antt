@@ -1,6 +1,7 @@
 -- `splits::split::parent_len` meets its contract. Assumes nothing.
+use native.Mathlib.Omega.{arith}
 use Rattle.tables.specs.Delimiters.{delimiters}
-use Rattle.splits.proofs.Parents.{parent-by}
+use Rattle.splits.proofs.Parents.{ends-apart, parent-by}
 use borrow.Author.Needs.{needs}
 use Rattle.splits.proofs.split.parent_len.Statement.{statement}
 use Rattle.splits.proofs.split.parent_len.Tie as tie
@@ -14,11 +15,21 @@ entry-at-requires c κs = search needs
 entry-at-requires-2 : tie.Need-entry-at-requires-2
 entry-at-requires-2 c κs = search needs
 
-len-or-zero-requires : tie.Need-len-or-zero-requires
-len-or-zero-requires c κs = search needs
+len-of-first-requires : tie.Need-len-of-first-requires
+len-of-first-requires c κs =
+    let s = c .before .before .before .before .before .before in
+    let split = s .pre .rising .split in (
+      split .bucketed,
+      omega (arith, ends-apart (delimiters (s .args .b) (s .args .keys .now)) (s .pre .rising .table) (s .args .m) (split .pos) (split .small)),
+    )
 
-len-or-zero-requires-2 : tie.Need-len-or-zero-requires-2
-len-or-zero-requires-2 c κs = search needs
+len-of-end-requires : tie.Need-len-of-end-requires
+len-of-end-requires c κs =
+    let s = c .before .before .before .before .before .before .before in
+    let split = s .pre .rising .split in (
+      search needs,
+      omega (arith, ends-apart (delimiters (s .args .b) (s .args .keys .now)) (s .pre .rising .table) (s .args .m) (split .pos) (split .small)),
+    )
 
 larger-requires : tie.Need-larger-requires
 larger-requires c κs = search needs
@@ -36,7 +47,7 @@ parent-len-spec =
     delimiter-count-requires
     entry-at-requires
     entry-at-requires-2
-    len-or-zero-requires
-    len-or-zero-requires-2
+    len-of-first-requires
+    len-of-end-requires
     larger-requires
     returns)
