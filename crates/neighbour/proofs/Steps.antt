@@ -9,6 +9,8 @@ use borrow.Author.Tests.{ltb-true, lt-ltb, le-leb, lt-leb, leb-true, leb-false, 
 use lib.Dec.{leb, ltb, eqb}
 use lib.ListN.{length}
 use Rattle.words.specs.Keys.{firstBits, bitAt, sharedBits}
+use Rattle.words.specs.Fat.{Fattest}
+use Rattle.words.proofs.Fatness.{fattest-one}
 use Rattle.words.proofs.Sharing.{shared-iff}
 use Rattle.tables.specs.Tables.{keyAt}
 use Rattle.splits.specs.Splits.{len}
@@ -66,13 +68,21 @@ module _ (T : List ℕ) (x a m b : ℕ) where
       unfolding decide
       decide-end k = rw (lt-ltb a m h, lt-ltb m b g, le-leb b (length T) l, ne-eqb (bitAt (len T m) x) 0 e, lt-leb x (keyAt T m) k)
 
+-- the 2-fattest number above the node's length and up to last is where the walk probes
+pub probe-is : (T : List ℕ) (node lower last f : ℕ) → lower ≡ len T node → lower < last → last ≤ 63 → Fattest lower last f → f ≡ probeAt T node (last + 1)
+probe-is T node lower last f is h l F =
+    let e : last ≡ last + 1 - 1 = omega arith in
+    fattest-one (rw (is, e) at F) (probe-fattest T node (last + 1) (omega arith) (omega arith))
+
 -- one probe, at f, where the look-up gave m
 module _ (T : List ℕ) (x : ℕ) (find : ℕ → ℕ) (node upper f m : ℕ) (e : f ≡ probeAt T node upper) (e′ : m ≡ find f) where
-  pub stepped-to : (l : ℕ) → l ≡ len T m → accepted T x f upper m ≡ true → Stepped T x find node upper (record { node = m; lower = l; upper = upper })
-  stepped-to l is ok = record { node-is = rw (← e, ← e′, ok); upper-is = rw (← e, ← e′, ok); lower-is = is }
+  pub stepped-to : (l last : ℕ) → l ≡ len T m → last + 1 ≡ upper → accepted T x f upper m ≡ true
+      → Stepped T x find node upper (record { node = m; lower = l; last = last })
+  stepped-to l last is top ok = record { node-is = rw (← e, ← e′, ok); upper-is = rw (← e, ← e′, ok) top; lower-is = is }
 
-  pub stepped-under : (l : ℕ) → l ≡ len T node → accepted T x f upper m ≡ false → Stepped T x find node upper (record { node = node; lower = l; upper = f })
-  stepped-under l is ok = record { node-is = rw (← e, ← e′, ok); upper-is = rw (← e, ← e′, ok); lower-is = is }
+  pub stepped-under : (l last : ℕ) → l ≡ len T node → last + 1 ≡ f → accepted T x f upper m ≡ false
+      → Stepped T x find node upper (record { node = node; lower = l; last = last })
+  stepped-under l last is top ok = record { node-is = rw (← e, ← e′, ok); upper-is = rw (← e, ← e′, ok) top; lower-is = is }
 
 -- what is left of the walk from the root when so many probes are made
 pub record Going (T : List ℕ) (x : ℕ) (find : ℕ → ℕ) (root node lower upper probes : ℕ) : Type 0 where
@@ -87,9 +97,9 @@ pub record Going (T : List ℕ) (x : ℕ) (find : ℕ → ℕ) (root node lower 
   pub same : descend T x find turns node upper .node ≡ descend T x find 64 root 64 .node
   pub counted : probes + length (descend T x find turns node upper .probed) ≡ length (descend T x find 64 root 64 .probed)
 
-pub going-start : (T : List ℕ) (x : ℕ) (find : ℕ → ℕ) (root lower : ℕ) → lower ≡ len T root → 0 < root → root < length T → lower < 64
-    → Going T x find root root lower 64 0
-going-start T x find root lower is h l s = record {
+pub going-start : (T : List ℕ) (x : ℕ) (find : ℕ → ℕ) (root lower upper : ℕ) → lower ≡ len T root → 0 < root → root < length T → lower < 64
+    → upper ≡ 64 → Going T x find root root lower upper 0
+going-start T x find root lower upper is h l s all = record {
   turns = 64;
   budget = refl;
   is = is;
@@ -98,8 +108,8 @@ going-start T x find root lower is h l s = record {
   pos = h;
   small = l;
   short = s;
-  same = refl;
-  counted = omega arith;
+  same = rw all;
+  counted = rw all (omega arith);
 }
 
 pub going-end : {T : List ℕ} {x : ℕ} {find : ℕ → ℕ} {root node lower upper probes : ℕ} → Going T x find root node lower upper probes → upper ≤ suc lower
@@ -112,14 +122,14 @@ module _ (T : List ℕ) (x : ℕ) (find : ℕ → ℕ) (node upper : ℕ) (s : S
   abbrev at : ℕ
   at = probeAt T node upper
 
-  descend-next : (k : ℕ) → let rest = descend T x find k (s .node) (s .upper) in
+  descend-next : (k : ℕ) → let rest = descend T x find k (s .node) (s .last + 1) in
       descend T x find (suc k) node upper ≡ record { probed = at ∷ rest .probed; node = rest .node }
   unfolding turn
   descend-next k = rw (S .node-is, S .upper-is) (descend-goes T x find k node upper h)
 
   -- a probe brings the node and upper nearer to each other
   nearer : (k : ℕ) → upper ≤ suc (len T node) + suc k → upper ≤ 64 → 0 < node → node < length T → len T node < 64
-      → (s .upper ≤ suc (len T (s .node)) + k) × (s .upper ≤ 64) × (0 < s .node) × (s .node < length T) × (len T (s .node) < 64)
+      → (s .last + 1 ≤ suc (len T (s .node)) + k) × (s .last + 1 ≤ 64) × (0 < s .node) × (s .node < length T) × (len T (s .node) < 64)
   nearer k r t p l u =
       let F = probe-fattest T node upper h t in
       let lo : len T node < at = F .above in
@@ -128,17 +138,17 @@ module _ (T : List ℕ) (x : ℕ) (find : ℕ → ℕ) (node upper : ℕ) (s : S
       (λ ok.
       let K = accepted-means T x at upper (find at) ok in
       let n : s .node ≡ find at = S .node-is ∙ (rw ok) in
-      let v : s .upper ≡ upper = S .upper-is ∙ (rw ok) in
+      let v : s .last + 1 ≡ upper = S .upper-is ∙ (rw ok) in
       let reach : at ≤ len T (find at) = K .reach in
       let less : len T (find at) < upper = K .short in
       rw (n, v) (omega arith, t, K .path .pos, K .path .small, omega arith))
       (λ ok.
       let n : s .node ≡ node = S .node-is ∙ (rw ok) in
-      let v : s .upper ≡ at = S .upper-is ∙ (rw ok) in
+      let v : s .last + 1 ≡ at = S .upper-is ∙ (rw ok) in
       rw (n, v) (omega arith, omega arith, p, l, u))
 
 pub going-next : {T : List ℕ} {x : ℕ} {find : ℕ → ℕ} {root node lower upper probes : ℕ} (s : State) → Going T x find root node lower upper probes
-    → suc lower < upper → Stepped T x find node upper s → Going T x find root (s .node) (s .lower) (s .upper) (probes + 1)
+    → suc lower < upper → Stepped T x find node upper s → Going T x find root (s .node) (s .lower) (s .last + 1) (probes + 1)
 going-next {T} {x} {find} {root} {node} {lower} {upper} {probes} s G h S = from (G .turns) (G .budget) (G .room) (G .same) (G .counted)
   where
     wide : suc (len T node) < upper
@@ -147,7 +157,7 @@ going-next {T} {x} {find} {root} {node} {lower} {upper} {probes} s G h S = from 
     from : (turns : ℕ) → probes + turns ≡ 64 → upper ≤ suc lower + turns
         → descend T x find turns node upper .node ≡ descend T x find 64 root 64 .node
         → probes + length (descend T x find turns node upper .probed) ≡ length (descend T x find 64 root 64 .probed)
-        → Going T x find root (s .node) (s .lower) (s .upper) (probes + 1)
+        → Going T x find root (s .node) (s .lower) (s .last + 1) (probes + 1)
     from zero b r n c = absurd (omega arith)
     from (suc k) b r n c =
         let N = nearer T x find node upper s wide S k (omega (arith, G .is)) (G .top) (G .pos) (G .small) (omega (arith, G .is, G .short)) in

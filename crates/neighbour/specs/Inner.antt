@@ -2,7 +2,7 @@
 use mathlib.Core.Path.{_≡_}
 use mathlib.Core.Bool.{cond}
 use mathlib.Core.List.{List}
-use Prim.Native.Nat.{ℕ, _-_, _≤_, _<_}
+use Prim.Native.Nat.{ℕ, _+_, _-_, _≤_, _<_}
 use lib.ListN.{length}
 use Rattle.words.specs.Keys.{prefixItem}
 use Rattle.cells.specs.Cells.{cellCount, mapValue}
@@ -39,10 +39,10 @@ pub record Node (b : ℕ) (keys : List ℕ) (node lower : ℕ) : Type 0 where
   pub is : lower ≡ len (delimiters b keys) node
   pub short : lower < 64
 
--- the state after one probe from a node below upper
+-- the state after one probe from a node below upper, where last is upper less 1
 pub record Stepped (T : List ℕ) (x : ℕ) (find : ℕ → ℕ) (node upper : ℕ) (s : State) : Type 0 where
   pub node-is : let f = probeAt T node upper in s .node ≡ cond (accepted T x f upper (find f)) (find f) node
-  pub upper-is : let f = probeAt T node upper in s .upper ≡ cond (accepted T x f upper (find f)) upper f
+  pub upper-is : let f = probeAt T node upper in s .last + 1 ≡ cond (accepted T x f upper (find f)) upper f
   pub lower-is : s .lower ≡ len T (s .node)
 
 -- where the probes from a root end
@@ -51,7 +51,8 @@ pub record Reached (T : List ℕ) (x : ℕ) (find : ℕ → ℕ) (root : ℕ) (d
   pub probes-is : d .probes ≡ length (descend T x find 64 root 64 .probed)
   pub pos : 0 < d .node
   pub small : d .node < length T
-  pub short : len T (d .node) < 64
+  pub lower-is : d .lower ≡ len T (d .node)
+  pub short : d .lower < 64
 
 -- a table whose delimiters are counted, and stores and work with room for them
 pub record Storable (b : ℕ) (keys handles left right work : List ℕ) : Type 0 where

@@ -19,16 +19,17 @@ use words::fattest::fattest;
 use words::prefix::prefix_item;
 use words::prefix::shared_bits;
 
-// The node, its length, and the length below which the others on x's path lie.
+// The node, its length, and document 01's upper less 1: the largest length that may still be probed.
 struct State {
     node: usize,
     lower: u32,
-    upper: u32,
+    last: u32,
 }
 
-// The node at which the probes end, and how many they were.
+// The node at which the probes end, its length, and how many they were.
 struct Descended {
     node: usize,
+    lower: u32,
     probes: usize,
 }
 
@@ -51,27 +52,25 @@ fn on_path(keys: &[u64], b: usize, x: u64, m: usize, l: u32) -> bool
 }
 
 // Whether the walk goes to m, which map 3 gave for the first f bits of x.
-fn accepts(keys: &[u64], b: usize, n: usize, x: u64, f: u32, upper: u32, m: usize) -> bool
-    requires { ⌜ Counted b (now keys) n ⌝ }
-    ensures { λ r. ⌜ r ≡ accepted (delimiters b (now (keys .entry))) x f upper m ⌝ }
+fn accepts(keys: &[u64], b: usize, n: usize, x: u64, f: u32, last: u32, m: usize) -> bool
+    requires { ⌜ Counted b (now keys) n × (0 < n) ⌝ }
+    ensures { λ r. ⌜ r ≡ accepted (delimiters b (now (keys .entry))) x f (last + 1) m ⌝ }
 {
-    if m == 0 {
-        return false;
-    }
-    if m >= n {
+    // 1 <= m < n in one comparison: 0 wraps around to the largest number.
+    if std::num::wrapping_sub_usize(m, 1) >= n - 1 {
         return false;
     }
     let l = len_at(keys, b, m);
     if l < f {
         return false;
     }
-    if l >= upper {
+    if l > last {
         return false;
     }
     on_path(keys, b, x, m, l)
 }
 
-// One probe, at the 2-fattest number strictly between lower and upper.
+// One probe, at the 2-fattest number above lower and up to last.
 fn probe(
     keys: &[u64],
     b: usize,
@@ -81,24 +80,24 @@ fn probe(
     x: u64,
     node: usize,
     lower: u32,
-    upper: u32,
+    last: u32,
 ) -> State
-    requires { ⌜ Lent b (now keys) n (now handles) × Node b (now keys) node lower × (lower + 1 < upper) × (upper ≤ 64) ⌝ }
-    ensures { λ s. ⌜ Stepped (delimiters b (now (keys .entry))) x (handleValue b (now (keys .entry)) (now (handles .entry)) seed3 x) node upper s ⌝ }
+    requires { ⌜ Lent b (now keys) n (now handles) × Node b (now keys) node lower × (lower < last) × (last ≤ 63) ⌝ }
+    ensures { λ s. ⌜ Stepped (delimiters b (now (keys .entry))) x (handleValue b (now (keys .entry)) (now (handles .entry)) seed3 x) node (last + 1) s ⌝ }
 {
-    let f = fattest(lower as u64, (upper - 1) as u64) as u32;
+    let f = fattest(lower as u64, last as u64) as u32;
     let m = cells::look_up(handles, handle_count(n), seed3, prefix_item(x, f)) as usize;
-    if accepts(keys, b, n, x, f, upper, m) {
+    if accepts(keys, b, n, x, f, last, m) {
         return State {
             node: m,
             lower: len_at(keys, b, m),
-            upper: upper,
+            last: last,
         };
     }
     State {
         node: node,
         lower: lower,
-        upper: f,
+        last: f - 1,
     }
 }
 
@@ -118,17 +117,18 @@ fn descend(
 {
     let mut node = root;
     let mut lower = l;
-    let mut upper: u32 = 64;
+    let mut last: u32 = 63;
     let mut probes: usize = 0;
-    while lower + 1 < upper {
-        let s = probe(keys, b, n, seed3, handles, x, node, lower, upper);
+    while lower < last {
+        let s = probe(keys, b, n, seed3, handles, x, node, lower, last);
         node = s.node;
         lower = s.lower;
-        upper = s.upper;
+        last = s.last;
         probes += 1;
     }
     Descended {
         node: node,
+        lower: lower,
         probes: probes,
     }
 }
@@ -153,7 +153,7 @@ fn tell(keys: &[u64], b: usize, n: usize, x: u64, probes: usize, c: usize) -> Ne
     })
 }
 
-// The end of the walk at split m, whose rows are said to go from `first` up to `end`.
+// The end of the walk at split m of length l, whose rows are said to go from `first` up to `end`.
 fn decide(
     keys: &[u64],
     b: usize,
@@ -163,8 +163,9 @@ fn decide(
     first: usize,
     m: usize,
     end: usize,
+    l: u32,
 ) -> NeighbourAnswer
-    requires { ⌜ Counted b (now keys) n × SplitOf b (now keys) m × (len (delimiters b (now keys)) m < 64) ⌝ }
+    requires { ⌜ Counted b (now keys) n × SplitOf b (now keys) m × (l ≡ len (delimiters b (now keys)) m) × (l < 64) ⌝ }
     ensures { λ r. ⌜ saidByNeighbour r ≡ told (delimiters b (now (keys .entry))) x probes (decide (delimiters b (now (keys .entry))) x first m end) ⌝ }
 {
     if first >= m {
@@ -176,7 +177,6 @@ fn decide(
     if end > n {
         return NeighbourAnswer::Refused(Refusal::Spoiled);
     }
-    let l = len_at(keys, b, m);
     if (x >> (63 - l)) % 2 == 0 {
         if x <= delimiter_at(keys, b, first) {
             return tell(keys, b, n, x, probes, first);
@@ -219,7 +219,7 @@ fn walk_splits(
         let node = d.node;
         let first = entry_at(left, node);
         let end = entry_at(right, node);
-        return decide(keys, b, n, x, d.probes, first, node, end);
+        return decide(keys, b, n, x, d.probes, first, node, end, d.lower);
     }
     if x <= delimiter_at(keys, b, root) {
         return tell(keys, b, n, x, 0, 0);

@@ -1,5 +1,6 @@
 -- `neighbour::walk::accepts` meets its contract. Assumes nothing.
 use mathlib.Core.Path.{_∙_}
+use Prim.Native.Nat.{_+_}
 use native.Mathlib.Omega.{arith}
 use Rattle.tables.specs.Delimiters.{delimiters}
 use Rattle.neighbour.proofs.Steps.{not-accepted, last-test}
@@ -7,39 +8,40 @@ use borrow.Author.Needs.{needs}
 use Rattle.neighbour.proofs.walk.accepts.Statement.{statement}
 use Rattle.neighbour.proofs.walk.accepts.Tie as tie
 
+wrapping-sub-usize-requires : tie.Need-wrapping-sub-usize-requires
+wrapping-sub-usize-requires c κs = search needs
+
+sub-if1 : tie.Need-sub-if1
+sub-if1 c = search needs
+
 returns : tie.Need-returns
 returns c =
-    let a = c .before .before .args in
-    not-accepted (delimiters (a .b) (a .keys .now)) (a .x) (a .f) (a .upper) (a .m) (λ K. omega (arith, K .path .pos))
-
-returns-2 : tie.Need-returns-2
-returns-2 c =
     let a = c .before .before .before .args in
-    not-accepted (delimiters (a .b) (a .keys .now)) (a .x) (a .f) (a .upper) (a .m) (λ K. omega (arith, K .path .small))
+    not-accepted (delimiters (a .b) (a .keys .now)) (a .x) (a .f) (a .last + 1) (a .m) (λ K. omega (arith, K .path .pos, K .path .small))
 
 len-at-requires : tie.Need-len-at-requires
 len-at-requires c κs = search needs
 
+returns-2 : tie.Need-returns-2
+returns-2 c =
+    let a = c .before .before .before .before .before .args in
+    not-accepted (delimiters (a .b) (a .keys .now)) (a .x) (a .f) (a .last + 1) (a .m) (λ K. omega (arith, K .reach))
+
 returns-3 : tie.Need-returns-3
 returns-3 c =
-    let a = c .before .before .before .before .before .args in
-    not-accepted (delimiters (a .b) (a .keys .now)) (a .x) (a .f) (a .upper) (a .m) (λ K. omega (arith, K .reach))
-
-returns-4 : tie.Need-returns-4
-returns-4 c =
     let a = c .before .before .before .before .before .before .args in
-    not-accepted (delimiters (a .b) (a .keys .now)) (a .x) (a .f) (a .upper) (a .m) (λ K. omega (arith, K .short))
+    not-accepted (delimiters (a .b) (a .keys .now)) (a .x) (a .f) (a .last + 1) (a .m) (λ K. omega (arith, K .short))
 
 on-path-requires : tie.Need-on-path-requires
 on-path-requires c κs = search needs
 
-returns-5 : tie.Need-returns-5
-returns-5 c =
+returns-4 : tie.Need-returns-4
+returns-4 c =
     let a = c .before .before .before .before .before .before .before .args in
     c .on-path .ensures
-    ∙ last-test (delimiters (a .b) (a .keys .now)) (a .x) (a .f) (a .upper) (a .m) (omega arith) (omega arith) (omega arith) (omega arith)
+    ∙ last-test (delimiters (a .b) (a .keys .now)) (a .x) (a .f) (a .last + 1) (a .m) (omega arith) (omega arith) (omega arith) (omega arith)
 
 pub accepts-spec : {M : Type 1} → statement M
 accepts-spec =
     tie.close
-    (tie.spec returns returns-2 len-at-requires returns-3 returns-4 on-path-requires returns-5)
+    (tie.spec wrapping-sub-usize-requires sub-if1 returns len-at-requires returns-2 returns-3 on-path-requires returns-4)

@@ -26,9 +26,6 @@ returns-3 c =
     let a = c .before .before .before .before .args in
     rw (decide-spoiled (delimiters (a .b) (a .keys .now)) (a .x) (a .first) (a .m) (a .end) (λ h g l. omega arith))
 
-len-at-requires : tie.Need-len-at-requires
-len-at-requires c κs = search needs
-
 sub-if4 : tie.Need-sub-if4
 sub-if4 c = search needs
 
@@ -46,26 +43,26 @@ tell-requires c κs = search needs
 
 returns-4 : tie.Need-returns-4
 returns-4 c =
-    let p = c .before .before .before .before in
-    let a = p .before .before .before .before .before .args in
+    let s = c .before .before .before .before .before .before .before .before in
+    let a = s .args in
     let T = delimiters (a .b) (a .keys .now) in
     c .tell .ensures
     ∙ ap (told T (a .x) (a .probes))
     (sym (decide-first T (a .x) (a .first) (a .m) (a .end) (omega arith) (omega arith) (omega arith)
-    (rw (p .len-at .ensures) at (c .before .before .before .if4 .taken)) (omega arith)))
+    (rw (s .pre .2) at (c .before .before .before .if4 .taken)) (omega arith)))
 
 tell-requires-2 : tie.Need-tell-requires-2
 tell-requires-2 c κs = search needs
 
 returns-5 : tie.Need-returns-5
 returns-5 c =
-    let p = c .before .before .before .before in
-    let a = p .before .before .before .before .before .args in
+    let s = c .before .before .before .before .before .before .before .before in
+    let a = s .args in
     let T = delimiters (a .b) (a .keys .now) in
     c .tell2 .ensures
     ∙ ap (told T (a .x) (a .probes))
     (sym (decide-low T (a .x) (a .first) (a .m) (a .end) (omega arith) (omega arith) (omega arith)
-    (rw (p .len-at .ensures) at (c .before .before .before .if4 .taken)) (omega arith)))
+    (rw (s .pre .2) at (c .before .before .before .if4 .taken)) (omega arith)))
 
 delimiter-at-requires-2 : tie.Need-delimiter-at-requires-2
 delimiter-at-requires-2 c κs = search needs
@@ -75,26 +72,26 @@ tell-requires-3 c κs = search needs
 
 returns-6 : tie.Need-returns-6
 returns-6 c =
-    let p = c .before .before .before .before in
-    let a = p .before .before .before .before .before .args in
+    let s = c .before .before .before .before .before .before .before .before in
+    let a = s .args in
     let T = delimiters (a .b) (a .keys .now) in
     c .tell3 .ensures
     ∙ ap (told T (a .x) (a .probes))
     (sym (decide-high T (a .x) (a .first) (a .m) (a .end) (omega arith) (omega arith) (omega arith)
-    (rw (p .len-at .ensures) at (c .before .before .before .if4 .left)) (omega arith)))
+    (rw (s .pre .2) at (c .before .before .before .if4 .left)) (omega arith)))
 
 tell-requires-4 : tie.Need-tell-requires-4
 tell-requires-4 c κs = search needs
 
 returns-7 : tie.Need-returns-7
 returns-7 c =
-    let p = c .before .before .before .before in
-    let a = p .before .before .before .before .before .args in
+    let s = c .before .before .before .before .before .before .before .before in
+    let a = s .args in
     let T = delimiters (a .b) (a .keys .now) in
     c .tell4 .ensures
     ∙ ap (told T (a .x) (a .probes))
     (sym (decide-end T (a .x) (a .first) (a .m) (a .end) (omega arith) (omega arith) (omega arith)
-    (rw (p .len-at .ensures) at (c .before .before .before .if4 .left)) (omega arith)))
+    (rw (s .pre .2) at (c .before .before .before .if4 .left)) (omega arith)))
 
 pub decide-spec : {M : Type 1} → statement M
 decide-spec =
@@ -103,7 +100,6 @@ decide-spec =
     returns
     returns-2
     returns-3
-    len-at-requires
     sub-if4
     cast-if4
     shr-if4

@@ -1,6 +1,6 @@
 -- `neighbour::walk::descend` meets its contract. The loop's invariant: what is left of the walk from here, with the probes made, is the walk
 -- from the root. The measure is what is left of 64 turns. Assumes nothing.
-use Prim.Native.Nat.{_-_}
+use Prim.Native.Nat.{_+_, _-_}
 use native.Mathlib.Omega.{arith}
 use Rattle.tables.specs.Delimiters.{delimiters}
 use Rattle.neighbour.specs.Inner.{handleValue}
@@ -9,22 +9,19 @@ use Rattle.neighbour.proofs.walk.descend.Statement.{statement}
 use Rattle.neighbour.proofs.walk.descend.Tie as tie
 
 abbrev Inv-loop : tie.InvT-loop
-Inv-loop keys b n seed3 handles x root l node₀ lower₀ upper₀ probes₀ node lower upper probes =
-    Going (delimiters b keys) x (handleValue b keys handles seed3 x) root node lower upper probes
+Inv-loop keys b n seed3 handles x root l node₀ lower₀ last₀ probes₀ node lower last probes =
+    Going (delimiters b keys) x (handleValue b keys handles seed3 x) root node lower (last + 1) probes
 
 abbrev μ-loop : tie.MeasureT-loop
-μ-loop keys b n seed3 handles x root l node₀ lower₀ upper₀ probes₀ node lower upper probes = 64 - probes
+μ-loop keys b n seed3 handles x root l node₀ lower₀ last₀ probes₀ node lower last probes = 64 - probes
 
 loop-holds : tie.Need-loop-holds Inv-loop μ-loop
 loop-holds c =
     let s = c .before .before in
     let a = s .args in
     let N = s .pre .1 in
-    going-start (delimiters (a .b) (a .keys .now)) (a .x) (handleValue (a .b) (a .keys .now) (a .handles .now) (a .seed3) (a .x)) (a .root) (a .l)
-    (N .is) (N .split .pos) (N .split .small) (N .short)
-
-add-loop : tie.Need-add-loop Inv-loop μ-loop
-add-loop c = omega (arith, c .loop .inv .short)
+    going-start (delimiters (a .b) (a .keys .now)) (a .x) (handleValue (a .b) (a .keys .now) (a .handles .now) (a .seed3) (a .x)) (a .root) (a .l) _
+    (N .is) (N .split .pos) (N .split .small) (N .short) (omega arith)
 
 probe-requires : tie.Need-probe-requires Inv-loop μ-loop
 probe-requires c κs =
@@ -33,7 +30,7 @@ probe-requires c κs =
       s .pre .0,
       record { split = record { bucketed = s .pre .1 .split .bucketed; pos = i .pos; small = i .small }; is = i .is; short = i .short },
       omega arith,
-      i .top,
+      omega (arith, i .top),
     )
 
 add-probes : tie.Need-add-probes Inv-loop μ-loop
@@ -53,7 +50,7 @@ returns : tie.Need-returns Inv-loop μ-loop
 returns c =
     let i = c .before .loop .inv in
     let e = going-end i (omega arith) in
-    record { node-is = e .0; probes-is = e .1; pos = i .pos; small = i .small; short = omega (arith, i .is, i .short) }
+    record { node-is = e .0; probes-is = e .1; pos = i .pos; small = i .small; lower-is = i .is; short = i .short }
 
 pub descend-spec : {M : Type 1} → statement M
 descend-spec =
@@ -62,7 +59,6 @@ descend-spec =
     Inv-loop
     μ-loop
     loop-holds
-    add-loop
     probe-requires
     add-probes
     loop-less

@@ -1,23 +1,15 @@
 -- `neighbour::walk::probe` meets its contract. Assumes nothing.
-use mathlib.Core.Path.{_≡_, sym, _∙_}
-use Prim.Native.Nat.{_-_}
+use mathlib.Core.Path.{_≡_, refl, sym, _∙_}
+use Prim.Native.Nat.{_+_, _-_}
 use native.Mathlib.Omega.{arith}
-use Rattle.words.proofs.Fatness.{fattest-one, fattest-of}
 use Rattle.tables.specs.Delimiters.{delimiters}
-use Rattle.splits.specs.Splits.{len}
 use Rattle.neighbour.specs.Walk.{probeAt}
 use Rattle.neighbour.specs.Inner.{handleValue}
 use Rattle.neighbour.proofs.Descending.{accepted-means}
-use Rattle.neighbour.proofs.Steps.{stepped-to, stepped-under}
+use Rattle.neighbour.proofs.Steps.{probe-is, stepped-to, stepped-under}
 use borrow.Author.Needs.{needs}
 use Rattle.neighbour.proofs.walk.probe.Statement.{statement}
 use Rattle.neighbour.proofs.walk.probe.Tie as tie
-
-sub-fattest : tie.Need-sub-fattest
-sub-fattest c = search needs
-
-cast-fattest : tie.Need-cast-fattest
-cast-fattest c = search needs
 
 fattest-requires : tie.Need-fattest-requires
 fattest-requires c κs = search needs
@@ -42,11 +34,12 @@ accepts-requires c κs = search needs
 
 -- the probe is at the length that the walk probes
 at : (c : tie.After-look-up) → let a = c .before .before .before .before .before .before .args in
-    c .before .before .before .fattest .result ≡ probeAt (delimiters (a .b) (a .keys .now)) (a .node) (a .upper)
+    c .before .before .before .fattest .result ≡ probeAt (delimiters (a .b) (a .keys .now)) (a .node) (a .last + 1)
 at c =
     let s = c .before .before .before .before .before .before in
-    let l = len (delimiters (s .args .b) (s .args .keys .now)) (s .args .node) in
-    fattest-one (rw (s .pre .1 .is) at (c .before .before .before .fattest .ensures)) (fattest-of l (s .args .upper - 1) (omega arith) (omega arith))
+    let f = c .before .before .before .fattest in
+    probe-is (delimiters (s .args .b) (s .args .keys .now)) (s .args .node) (s .args .lower) (s .args .last) (f .result)
+    (s .pre .1 .is) (s .pre .2) (s .pre .3) (f .ensures)
 
 -- and map 3 says of it what the walk looks up
 found : (c : tie.After-look-up) → let a = c .before .before .before .before .before .before .args in
@@ -59,7 +52,7 @@ len-at-requires c κs =
     let a = s .args in
     let T = delimiters (a .b) (a .keys .now) in
     let ok = sym (c .before .accepts .ensures) ∙ c .if1 .taken in
-    let K = accepted-means T (a .x) (c .before .before .before .before .before .fattest .result) (a .upper) (c .before .before .look-up .result) ok in
+    let K = accepted-means T (a .x) (c .before .before .before .before .before .fattest .result) (a .last + 1) (c .before .before .look-up .result) ok in
     record { bucketed = s .pre .0 .counted .bucketed; pos = K .path .pos; small = K .path .small }
 
 returns : tie.Need-returns
@@ -68,8 +61,11 @@ returns c =
     let a = p .before .before .before .before .before .before .args in
     let T = delimiters (a .b) (a .keys .now) in
     let ok = sym (c .before .before .accepts .ensures) ∙ c .before .if1 .taken in
-    stepped-to T (a .x) (handleValue (a .b) (a .keys .now) (a .handles .now) (a .seed3) (a .x)) (a .node) (a .upper)
-    (p .before .before .before .fattest .result) (p .look-up .result) (at p) (found p) (c .len-at .result) (c .len-at .ensures) ok
+    stepped-to T (a .x) (handleValue (a .b) (a .keys .now) (a .handles .now) (a .seed3) (a .x)) (a .node) (a .last + 1)
+    (p .before .before .before .fattest .result) (p .look-up .result) (at p) (found p) (c .len-at .result) (a .last) (c .len-at .ensures) refl ok
+
+sub-t19 : tie.Need-sub-t19
+sub-t19 c = search needs
 
 returns-2 : tie.Need-returns-2
 returns-2 c =
@@ -78,15 +74,14 @@ returns-2 c =
     let a = s .args in
     let T = delimiters (a .b) (a .keys .now) in
     let fails = sym (c .before .accepts .ensures) ∙ c .if1 .left in
-    stepped-under T (a .x) (handleValue (a .b) (a .keys .now) (a .handles .now) (a .seed3) (a .x)) (a .node) (a .upper)
-    (p .before .before .before .fattest .result) (p .look-up .result) (at p) (found p) (a .lower) (s .pre .1 .is) fails
+    stepped-under T (a .x) (handleValue (a .b) (a .keys .now) (a .handles .now) (a .seed3) (a .x)) (a .node) (a .last + 1)
+    (p .before .before .before .fattest .result) (p .look-up .result) (at p) (found p) (a .lower) (p .before .before .before .fattest .result - 1)
+    (s .pre .1 .is) (omega arith) fails
 
 pub probe-spec : {M : Type 1} → statement M
 probe-spec =
     tie.close
     (tie.spec
-    sub-fattest
-    cast-fattest
     fattest-requires
     cast-f
     handle-count-requires
@@ -96,4 +91,5 @@ probe-spec =
     accepts-requires
     len-at-requires
     returns
+    sub-t19
     returns-2)
