@@ -5,7 +5,7 @@
 ghost use mathlib.Core.Path.{_≡_};
 ghost use Prim.Native.Nat.{_*_, _≤_, _<_};
 ghost use lib.ListN.{length};
-ghost use Rattle.words.specs.Reciprocals.{Reciprocal};
+ghost use Rattle.words.specs.Inner.{Reciprocal};
 ghost use Rattle.cells.specs.Cells.{segment, cellCount, cellOf, Segment, valueAt, mapValue};
 ghost use Rattle.cells.specs.Memory.{cleared};
 use words::remainder::reciprocal;

@@ -55,8 +55,8 @@ abbrev pub lenOrZero : List ℕ → ℕ → ℕ
 lenOrZero T j = cond (leb 1 j && ltb j (length T)) (len T j) 0
 
 -- s is a split or 0, and its length, where the length of 0 is more than any
-abbrev pub Known : List ℕ → Shortest → Type 0
-Known T s = s .bits ≡ cond (eqb (s .split) 0) 65 (len T (s .split))
+abbrev pub Measured : List ℕ → Shortest → Type 0
+Measured T s = s .bits ≡ cond (eqb (s .split) 0) 65 (len T (s .split))
 
 -- `new` holds entry i at each i from lo up to, not including, hi, and is as `old` elsewhere
 pub record Wrote (lo hi : ℕ) (entry : ℕ → ℕ) (old new : List ℕ) : Type 0 where

@@ -5,7 +5,7 @@ ghost use lib.ListN.{length};
 ghost use Rattle.tables.specs.Tables.{Table};
 ghost use Rattle.tables.specs.Delimiters.{delimiters, Bucketed};
 ghost use Rattle.splits.specs.Splits.{root, smallerOf, leftEntry, rightEntry, leftStore, rightStore};
-ghost use Rattle.splits.specs.Inner.{SplitOf, Counted, Rising, Holds, Roomy, goesOn, Known, Wrote};
+ghost use Rattle.splits.specs.Inner.{SplitOf, Counted, Rising, Holds, Roomy, goesOn, Measured, Wrote};
 use crate::split::entry_at;
 use crate::split::len_at;
 use tables::delimiter::delimiter_count;
@@ -93,8 +93,8 @@ fn fill_right(keys: &[u64], b: usize, n: usize, right: &mut [u16])
 
 // Of a split, 0 for none, and a later split m the one with the smaller len.
 fn smaller_of(keys: &[u64], b: usize, s: Shortest, m: usize) -> Shortest
-    requires { ⌜ SplitOf b (now keys) m × Known (delimiters b (now keys)) s × (s .split < m) ⌝ }
-    ensures { λ k. ⌜ (k .split ≡ smallerOf (delimiters b (now (keys .entry))) (s .split) m) × Known (delimiters b (now (keys .entry))) k × (k .split ≤ m) ⌝ }
+    requires { ⌜ SplitOf b (now keys) m × Measured (delimiters b (now keys)) s × (s .split < m) ⌝ }
+    ensures { λ k. ⌜ (k .split ≡ smallerOf (delimiters b (now (keys .entry))) (s .split) m) × Measured (delimiters b (now (keys .entry))) k × (k .split ≤ m) ⌝ }
 {
     let l = len_at(keys, b, m);
     if l < s.bits {

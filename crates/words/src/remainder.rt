@@ -1,7 +1,7 @@
 // Remainders by a number m that many words are divided by: one division gives its reciprocal, and then each remainder is two products.
 ghost use mathlib.Core.Path.{_≡_};
 ghost use Prim.Native.Nat.{_*_, _%_, _^_, _≤_, _<_};
-ghost use Rattle.words.specs.Reciprocals.{Reciprocal};
+ghost use Rattle.words.specs.Inner.{Reciprocal};
 use crate::product::high_product;
 use crate::product::wrapping_mul;
 

@@ -3,8 +3,7 @@ use mathlib.Core.Path.{_≡_}
 use mathlib.Core.List.{List}
 use Prim.Native.Nat.{ℕ, zero, suc, _+_, _*_, _≤_, _<_}
 use lib.ListN.{length, getD, set}
-use Rattle.words.specs.Inner.{mixedHash}
-use Rattle.words.specs.Reciprocals.{Reciprocal}
+use Rattle.words.specs.Inner.{mixedHash, Reciprocal}
 use Rattle.cells.specs.Cells.{segment, cellOf, Segment}
 use Rattle.items.specs.Items.{itemsOf, valuesOf, Known}
 use Rattle.maps.specs.declared.Map.{Map}

@@ -6,14 +6,14 @@ use native.Mathlib.Omega.{arith}
 use lib.ListN.{length}
 use Rattle.tables.specs.Delimiters.{delimiters}
 use Rattle.splits.specs.Splits.{rootTo}
-use Rattle.splits.specs.Inner.{Known}
+use Rattle.splits.specs.Inner.{Measured}
 use Rattle.splits.proofs.Parents.{root-more}
 use Rattle.splits.proofs.bounds.root_of.Statement.{statement}
 use Rattle.splits.proofs.bounds.root_of.Tie as tie
 
 abbrev Inv-loop : tie.InvT-loop
 Inv-loop keys b n s₀ m₀ s m =
-    (0 < m) × (m - 1 ≤ n - 1) × (s .split ≤ m - 1) × (s .split ≡ rootTo (delimiters b keys) (m - 1)) × Known (delimiters b keys) s
+    (0 < m) × (m - 1 ≤ n - 1) × (s .split ≤ m - 1) × (s .split ≡ rootTo (delimiters b keys) (m - 1)) × Measured (delimiters b keys) s
 
 abbrev μ-loop : tie.MeasureT-loop
 μ-loop keys b n s₀ m₀ s m = n - m

@@ -1,0 +1,38 @@
+-- bench/entries.h: one number for each thing that an entry says.
+use mathlib.Core.Path.{_≡_}
+use mathlib.Core.Bool.{Bool, cond}
+use Prim.Native.Nat.{ℕ, _*_, _%_, _^_}
+use lib.Bits.{bitXor}
+use Rattle.refusals.specs.Numbers as build
+use Rattle.call.specs.Ask as call
+use Rattle.neighbour.specs.Ask as near
+
+-- a refusal: 2^63, its number from bit 32 on, and what it names
+abbrev pub refusedCode : ℕ → ℕ → ℕ
+refusedCode number names = bitXor (bitXor 9223372036854775808 (number * 2 ^ 32 % 2 ^ 64)) names
+
+-- a build: 0 where it is taken
+abbrev pub buildCode : build.BuildSaid → ℕ
+buildCode build.taken = 0
+buildCode (build.refused number names) = refusedCode number names
+
+-- a code stands for what a build says, of which `Says` holds
+pub record Coded (Says : build.BuildSaid → Type 0) (code : ℕ) : Type 0 where
+  pub said : build.BuildSaid
+  pub is : code ≡ buildCode said
+  pub says : Says said
+
+-- a call ask: the row, or all ones
+abbrev pub callCode : call.CallSaid → ℕ
+callCode (call.row r) = r
+callCode call.absent = 18446744073709551615
+callCode (call.refused number names) = refusedCode number names
+
+-- bit 40: whether x stands in the table
+abbrev pub standsCode : Bool → ℕ
+standsCode stands = cond stands 1099511627776 0
+
+-- a neighbour ask: the number before, the probes from bit 32 on, and whether x stands in the table
+abbrev pub neighbourCode : near.NeighbourSaid → ℕ
+neighbourCode (near.place before probes stands) = bitXor (bitXor before (probes * 2 ^ 32 % 2 ^ 64)) (standsCode stands)
+neighbourCode (near.refused number names) = refusedCode number names

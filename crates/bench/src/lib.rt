@@ -1,0 +1,104 @@
+// The entries under C's calling convention, for bench/: every answer is one 64-bit number (bench/entries.h), so that the proved library and
+// its unverified twin can be run by one driver.
+//
+// Every function is proved and the crate assumes nothing. No function has a `requires`: each takes what the entry behind it takes.
+ghost use mathlib.Core.Path.{_≡_};
+ghost use Rattle.refusals.specs.Numbers.{number, names};
+ghost use Rattle.call.specs.Ask.{callSays};
+ghost use Rattle.call.specs.Build.{CallBuilt};
+ghost use Rattle.neighbour.specs.Ask.{neighbourSays};
+ghost use Rattle.neighbour.specs.Build.{NeighbourBuilt};
+ghost use Rattle.bench.specs.Codes.{refusedCode, Coded, callCode, neighbourCode, standsCode};
+use call::ask::CallAnswer;
+use neighbour::NeighbourAnswer;
+use refusals::Refusal;
+use refusals::Verdict;
+
+fn refused(r: Refusal) -> u64
+    ensures { λ c. ⌜ c ≡ refusedCode (number r) (names r) ⌝ }
+{
+    0x8000_0000_0000_0000 ^ (samples::answer::number(r) << 32) ^ samples::answer::named(r)
+}
+
+fn flag(stands: bool) -> u64
+    ensures { λ c. ⌜ c ≡ standsCode stands ⌝ }
+{
+    if stands {
+        return 0x100_0000_0000;
+    }
+    0
+}
+
+#[no_mangle]
+pub extern "C" fn index_call_ask(
+    keys: &[u64],
+    b: usize,
+    seed1: u64,
+    seed2: u64,
+    cells: &[u16],
+    x: u64,
+) -> u64
+    ensures { λ c. ⌜ c ≡ callCode (callSays (now (keys .entry)) b seed1 seed2 (now (cells .entry)) x) ⌝ }
+{
+    let a = call::call_ask(keys, b, seed1, seed2, cells, x);
+    match a {
+        CallAnswer::Row(row) => row as u64,
+        CallAnswer::Absent => 0xFFFF_FFFF_FFFF_FFFF,
+        CallAnswer::Refused(r) => refused(r),
+    }
+}
+
+#[no_mangle]
+pub extern "C" fn index_neighbour_ask(
+    keys: &[u64],
+    seed3: u64,
+    handles: &[u16],
+    left: &[u16],
+    right: &[u16],
+    x: u64,
+) -> u64
+    ensures { λ c. ⌜ c ≡ neighbourCode (neighbourSays (now (keys .entry)) (now (handles .entry)) (now (left .entry)) (now (right .entry)) seed3 x) ⌝ }
+{
+    let a = neighbour::neighbour_ask(keys, seed3, handles, left, right, x);
+    match a {
+        NeighbourAnswer::At(p) => (p.before as u64) ^ ((p.probes as u64) << 32) ^ flag(p.stands),
+        NeighbourAnswer::Refused(r) => refused(r),
+    }
+}
+
+#[no_mangle]
+pub extern "C" fn index_call_build(
+    keys: &[u64],
+    b: usize,
+    seed1: u64,
+    seed2: u64,
+    cells: &mut [u16],
+    work: &mut [u16],
+) -> u64
+    ensures { λ c. ⌜ Coded (λ said. CallBuilt (now (keys .entry)) b seed1 seed2 (now (cells .entry)) (now (work .entry)) said (now (cells .exit)) (now (work .exit))) c ⌝ }
+{
+    let v = call::call_build(keys, b, seed1, seed2, cells, work);
+    match v {
+        Verdict::Taken => 0,
+        Verdict::Refused(r) => refused(r),
+    }
+}
+
+#[no_mangle]
+pub extern "C" fn index_neighbour_build(
+    keys: &[u64],
+    seed3: u64,
+    handles: &mut [u16],
+    left: &mut [u16],
+    right: &mut [u16],
+    work: &mut [u16],
+) -> u64
+    ensures { λ c. ⌜ Coded (λ said. NeighbourBuilt (now (keys .entry)) seed3 (now (handles .entry)) (now (left .entry)) (now (right .entry)) (now (work .entry))
+        said (now (handles .exit)) (now (left .exit)) (now (right .exit)) (now (work .exit))) c ⌝ }
+{
+    let v = neighbour::neighbour_build(keys, seed3, handles, left, right, work);
+    match v {
+        Verdict::Taken => 0,
+        Verdict::Refused(r) => refused(r),
+    }
+}
