@@ -11,7 +11,7 @@ use mathlib.Core.Logic.{inl, inr, ⊎-elim}
 use Prim.Native.Nat.{ℕ, _+_, _*_, _≤_, _<_}
 use native.Mathlib.Nat.{eq-or-lt-of-le}
 use native.Mathlib.Omega.{arith}
-use lib.ListN.{length, getD}
+use lib.ListN.{length}
 use Rattle.maps.specs.declared.Map.{Map}
 use Rattle.maps.specs.declared.Touched.{Touched}
 use Rattle.maps.specs.Jam.{Touches}

@@ -1,19 +1,18 @@
 -- The root, the entries of the stores, and the parent's length of a split. Assumes nothing.
 use mathlib.Core.Path.{_≡_, refl, sym}
-use mathlib.Core.Bool.{Bool, true, false, cond, and-true}
+use mathlib.Core.Bool.{Bool, true, false, cond}
 use mathlib.Core.List.{List}
 use Prim.Native.Nat.{ℕ, zero, suc, _-_, _≤_, _<_, max, zero-le}
 use native.Mathlib.Nat.{le-refl}
 use native.Mathlib.Decide.{decLe}
 use native.Mathlib.Omega.{arith}
-use borrow.Author.Tests.{ltb-true, ltb-false, eqb-true, eqb-false, lt-ltb, le-ltb, le-leb, ne-eqb}
-use lib.Dec.{leb, ltb, eqb}
+use borrow.Author.Tests.{ltb-true, ltb-false, eqb-true, eqb-false, lt-ltb, le-ltb, ne-eqb}
+use lib.Dec.{ltb, eqb}
 use lib.ListN.{length}
 use Rattle.words.specs.Keys.{firstBits}
 use Rattle.words.proofs.Sharing.{shared-le}
 use Rattle.tables.specs.Tables.{keyAt, Table}
 use Rattle.splits.specs.Splits.{len, left, right, smallerOf, rootTo, root, parentLen, leftEntry, rightEntry}
-use Rattle.splits.specs.Inner.{lenOrZero}
 use Rattle.splits.proofs.Bools.{by-test}
 use Rattle.splits.proofs.Rows.{left-lt, right-gt, right-le, rows-own, left-len, right-len, one-split}
 
@@ -108,10 +107,6 @@ pub right-split : (T : List ℕ) (m : ℕ) → 0 < m → rightEntry T m ≡ righ
 unfolding rightEntry
 right-split T m h = rw (ne-eqb m 0 (λ z. omega arith))
 
--- the length of a row that is a split
-pub len-split : (T : List ℕ) (j : ℕ) → 0 < j → j < length T → len T j ≡ lenOrZero T j
-len-split T j h g = rw (le-leb 1 j h, lt-ltb j (length T) g)
-
 -- the parent's length
 pub parent-left : (T : List ℕ) (m : ℕ) → 0 < left T m → len T (left T m) ≤ parentLen T m
 unfolding parentLen
@@ -169,10 +164,8 @@ module _ (T : List ℕ) (t : Table T) where
   pub ends-apart : (m : ℕ) → 0 < m → m < length T → (leftEntry T m < length T) × (0 < rightEntry T m)
   ends-apart m pos small = rw (left-split T m pos, right-split T m pos) (omega (arith, left-lt T t m pos small, right-gt T t m pos small))
 
-  -- the parent's length by the entries of the stores: an entry that is no split counts 0
-  pub parent-by : (m : ℕ) → 0 < m → m < length T → max (lenOrZero T (leftEntry T m)) (lenOrZero T (rightEntry T m)) ≡ parentLen T m
-  unfolding parentLen
-  parent-by m pos small =
-      let ends = ends-apart m pos small in
-      rw (lt-ltb (leftEntry T m) (length T) (ends .0), le-leb 1 (rightEntry T m) (ends .1), left-split T m pos, right-split T m pos)
-      (rw (and-true (leb 1 (left T m))))
+-- the parent's length by the entries of the stores
+pub parent-by : (T : List ℕ) (m : ℕ) → 0 < m
+    → max (cond (ltb 0 (leftEntry T m)) (len T (leftEntry T m)) 0) (cond (ltb (rightEntry T m) (length T)) (len T (rightEntry T m)) 0) ≡ parentLen T m
+unfolding parentLen
+parent-by T m pos = rw (left-split T m pos, right-split T m pos)

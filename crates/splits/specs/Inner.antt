@@ -50,10 +50,6 @@ pub record Roomy (b : ℕ) (keys lefts rights : List ℕ) : Type 0 where
 abbrev pub goesOn : List ℕ → ℕ → ℕ → Bool
 goesOn T j l = leb 1 j && (ltb j (length T) && leb l (len T j))
 
--- the length of split j, and 0 where row j is none
-abbrev pub lenOrZero : List ℕ → ℕ → ℕ
-lenOrZero T j = cond (leb 1 j && ltb j (length T)) (len T j) 0
-
 -- s is a split or 0, and its length, where the length of 0 is more than any
 abbrev pub Measured : List ℕ → Shortest → Type 0
 Measured T s = s .bits ≡ cond (eqb (s .split) 0) 65 (len T (s .split))

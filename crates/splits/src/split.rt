@@ -1,10 +1,12 @@
 // One split: its length, its parent's length, and its handle, the item that map 3 knows it by.
 ghost use mathlib.Core.Path.{_≡_};
+ghost use mathlib.Core.Bool.{cond};
 ghost use Prim.Native.Nat.{_<_, max};
+ghost use lib.Dec.{ltb};
 ghost use lib.ListN.{length, getD};
 ghost use Rattle.tables.specs.Delimiters.{delimiters, Bucketed};
 ghost use Rattle.splits.specs.Splits.{len, root, parentLen, handleItem, splitBeside};
-ghost use Rattle.splits.specs.Inner.{SplitOf, Counted, Bounded, lenOrZero};
+ghost use Rattle.splits.specs.Inner.{SplitOf, Counted, Bounded};
 use tables::delimiter::delimiter_at;
 use tables::delimiter::delimiter_count;
 use words::fattest::fattest;
@@ -41,7 +43,7 @@ pub fn handle_split(root: usize, i: usize) -> usize
 // The length of split j, 0 for row 0: what the first row of a split says of its parent.
 fn len_of_first(keys: &[u64], b: usize, j: usize) -> u32
     requires { ⌜ Bucketed b (now keys) × (j < length (delimiters b (now keys))) ⌝ }
-    ensures { λ r. ⌜ r ≡ lenOrZero (delimiters b (now (keys .entry))) j ⌝ }
+    ensures { λ r. ⌜ r ≡ cond (ltb 0 j) (len (delimiters b (now (keys .entry))) j) 0 ⌝ }
 {
     if j == 0 {
         return 0;
@@ -52,7 +54,7 @@ fn len_of_first(keys: &[u64], b: usize, j: usize) -> u32
 // The length of split j, 0 where row j is beyond the last: what the row after a split's last says of its parent.
 fn len_of_end(keys: &[u64], b: usize, n: usize, j: usize) -> u32
     requires { ⌜ Counted b (now keys) n × (0 < j) ⌝ }
-    ensures { λ r. ⌜ r ≡ lenOrZero (delimiters b (now (keys .entry))) j ⌝ }
+    ensures { λ r. ⌜ r ≡ cond (ltb j (length (delimiters b (now (keys .entry))))) (len (delimiters b (now (keys .entry))) j) 0 ⌝ }
 {
     if j >= n {
         return 0;

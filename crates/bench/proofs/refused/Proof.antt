@@ -1,5 +1,4 @@
 -- `bench::refused` meets its contract: what the two calls ensure, put together. Assumes nothing.
-use borrow.Author.Needs.{needs}
 use Rattle.bench.proofs.refused.Statement.{statement}
 use Rattle.bench.proofs.refused.Tie as tie
 

@@ -1,17 +1,7 @@
 -- `call::build::build_prefixes` meets its contract: it builds map 2 in the part from cell C(n) on. Assumes nothing.
-use mathlib.Core.Path.{_≡_, sym, ap, _∙_}
-use mathlib.Core.List.{List}
-use Prim.Native.Nat.{ℕ, _-_, _≤_}
-use native.Mathlib.Omega.{arith}
 use denote.Ref.{now}
-use lib.ListN.{length, take, drop, length-drop}
 use borrow.Author.Needs.{needs}
-use borrow.Rule.Slice.PartMut.{putMid, midOf}
-use Rattle.cells.specs.Cells.{cellCount}
-use Rattle.items.specs.Items.{itemsOf, valuesOf, prefixItems, bucketNumbers}
-use Rattle.items.proofs.Values.{length-prefixes}
-use Rattle.maps.specs.Built.{Built}
-use Rattle.call.specs.Inner.{PrefixesBuilt}
+use Rattle.items.specs.Items.{itemsOf, valuesOf}
 use Rattle.call.proofs.Joining.{prefixes-built, prefix-room}
 use Rattle.call.proofs.build.build_prefixes.Statement.{statement}
 use Rattle.call.proofs.build.build_prefixes.Tie as tie

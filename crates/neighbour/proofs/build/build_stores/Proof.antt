@@ -1,15 +1,13 @@
 -- `neighbour::build::build_stores` meets its contract: the bounds are written, and map 3 is built over them. Assumes nothing.
-use mathlib.Core.Path.{_≡_, sym, ap, _∙_}
-use mathlib.Core.List.{List}
+use mathlib.Core.Path.{ap, _∙_}
 use Prim.Native.Nat.{ℕ}
 use native.Mathlib.Omega.{arith}
 use denote.Ref.{now}
-use lib.ListN.{length}
 use borrow.Author.Needs.{needs}
 use Rattle.cells.specs.Memory.{cleared}
 use Rattle.tables.specs.Delimiters.{delimiters}
 use Rattle.tables.proofs.Delimiting.{delimiters-table}
-use Rattle.items.specs.Items.{itemsOf, valuesOf, Bounds}
+use Rattle.items.specs.Items.{itemsOf, valuesOf}
 use Rattle.items.proofs.Handling.{stores-bounds}
 use Rattle.neighbour.proofs.Storing.{handles-room, stores-filled, stores-jammed}
 use Rattle.neighbour.proofs.build.build_stores.Statement.{statement}

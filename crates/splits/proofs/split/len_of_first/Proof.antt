@@ -1,8 +1,6 @@
 -- `splits::split::len_of_first` meets its contract. Assumes nothing.
-use mathlib.Core.Path.{_∙_}
 use native.Mathlib.Omega.{arith}
-use Rattle.tables.specs.Delimiters.{delimiters}
-use Rattle.splits.proofs.Parents.{len-split}
+use borrow.Author.Tests.{lt-ltb}
 use borrow.Author.Needs.{needs}
 use Rattle.splits.proofs.split.len_of_first.Statement.{statement}
 use Rattle.splits.proofs.split.len_of_first.Tie as tie
@@ -16,7 +14,7 @@ len-at-requires c κs = search needs
 returns-2 : tie.Need-returns-2
 returns-2 c =
     let a = c .before .before .before .args in
-    c .len-at .ensures ∙ len-split (delimiters (a .b) (a .keys .now)) (a .j) (omega arith) (omega arith)
+    rw (lt-ltb 0 (a .j) (omega arith)) (c .len-at .ensures)
 
 pub len-of-first-spec : {M : Type 1} → statement M
 len-of-first-spec = tie.close (tie.spec returns len-at-requires returns-2)

@@ -37,8 +37,7 @@ larger-requires c κs = search needs
 returns : tie.Need-returns
 returns c =
     let s = c .before .before .before .before .before .before .before .before .before in
-    let split = s .pre .rising .split in
-    cc (parent-by (delimiters (s .args .b) (s .args .keys .now)) (s .pre .rising .table) (s .args .m) (split .pos) (split .small))
+    cc (parent-by (delimiters (s .args .b) (s .args .keys .now)) (s .args .m) (s .pre .rising .split .pos))
 
 pub parent-len-spec : {M : Type 1} → statement M
 parent-len-spec =
