@@ -3,12 +3,12 @@
 //
 // Every function is proved and the crate assumes nothing. No function has a `requires`: each takes what the entry behind it takes.
 ghost use mathlib.Core.Path.{_≡_};
-ghost use Rattle.refusals.specs.Numbers.{number, names};
+ghost use Rattle.refusals.specs.Numbers.{number, names, saidByBuild};
 ghost use Rattle.call.specs.Ask.{callSays};
 ghost use Rattle.call.specs.Build.{CallBuilt};
 ghost use Rattle.neighbour.specs.Ask.{neighbourSays};
 ghost use Rattle.neighbour.specs.Build.{NeighbourBuilt};
-ghost use Rattle.bench.specs.Codes.{refusedCode, Coded, callCode, neighbourCode, standsCode};
+ghost use Rattle.bench.specs.Codes.{refusedCode, buildCode, Coded, callCode, neighbourCode, standsCode};
 use call::ask::CallAnswer;
 use neighbour::NeighbourAnswer;
 use refusals::Refusal;
@@ -18,6 +18,15 @@ fn refused(r: Refusal) -> u64
     ensures { λ c. ⌜ c ≡ refusedCode (number r) (names r) ⌝ }
 {
     0x8000_0000_0000_0000 ^ (samples::answer::number(r) << 32) ^ samples::answer::named(r)
+}
+
+fn verdict(v: Verdict) -> u64
+    ensures { λ c. ⌜ c ≡ buildCode (saidByBuild v) ⌝ }
+{
+    match v {
+        Verdict::Taken => 0,
+        Verdict::Refused(r) => refused(r),
+    }
 }
 
 fn flag(stands: bool) -> u64
@@ -77,11 +86,7 @@ pub extern "C" fn index_call_build(
 ) -> u64
     ensures { λ c. ⌜ Coded (λ said. CallBuilt (now (keys .entry)) b seed1 seed2 (now (cells .entry)) (now (work .entry)) said (now (cells .exit)) (now (work .exit))) c ⌝ }
 {
-    let v = call::call_build(keys, b, seed1, seed2, cells, work);
-    match v {
-        Verdict::Taken => 0,
-        Verdict::Refused(r) => refused(r),
-    }
+    verdict(call::call_build(keys, b, seed1, seed2, cells, work))
 }
 
 #[no_mangle]
@@ -96,9 +101,5 @@ pub extern "C" fn index_neighbour_build(
     ensures { λ c. ⌜ Coded (λ said. NeighbourBuilt (now (keys .entry)) seed3 (now (handles .entry)) (now (left .entry)) (now (right .entry)) (now (work .entry))
         said (now (handles .exit)) (now (left .exit)) (now (right .exit)) (now (work .exit))) c ⌝ }
 {
-    let v = neighbour::neighbour_build(keys, seed3, handles, left, right, work);
-    match v {
-        Verdict::Taken => 0,
-        Verdict::Refused(r) => refused(r),
-    }
+    verdict(neighbour::neighbour_build(keys, seed3, handles, left, right, work))
 }
