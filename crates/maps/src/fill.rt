@@ -28,9 +28,10 @@ fn fill_turn(
     let i = work[x] as usize;
     let y = cap + cap + i;
     let c = work[y] as usize - 1;
+    let want = items::value_at(which, map.b, keys, left, right, i);
     let h = count::hash_at(which, map.b, map.mixed, keys, left, right, i);
     let value = cells::value_from(cells, m, map.r, h);
-    cells[c] = cells[c] ^ items::value_at(which, map.b, keys, left, right, i) ^ value;
+    cells[c] = cells[c] ^ want ^ value;
 }
 
 // Fills the cells, over cells that are 0.

@@ -60,17 +60,17 @@ cast-c c = omega (arith, marked (start (c .before .before)), start (c .before .b
 sub-c : tie.Need-sub-c
 sub-c c = omega (arith, marked (start (c .before .before)))
 
+value-at-requires : tie.Need-value-at-requires
+value-at-requires c κs = asked (start (c .before .before))
+
 hash-at-requires : tie.Need-hash-at-requires
-hash-at-requires c κs = asked (start (c .before .before))
+hash-at-requires c κs = asked (start (c .before .before .before))
 
 mul-cells : tie.Need-mul-cells
-mul-cells c = omega (arith, below (start (c .before .before .before .before .before)))
+mul-cells c = omega (arith, below (start (c .before .before .before .before .before .before)))
 
 slice-read-cells : tie.Need-slice-read-cells
-slice-read-cells c = omega (arith, below (start (c .before .before .before .before .before .before)))
-
-value-at-requires : tie.Need-value-at-requires
-value-at-requires c κs = asked (start (c .before .before .before .before .before .before))
+slice-read-cells c = omega (arith, below (start (c .before .before .before .before .before .before .before)))
 
 mul-cells-2 : tie.Need-mul-cells-2
 mul-cells-2 c = omega (arith, below (start (c .before .before .before .before .before .before .before)))
@@ -80,11 +80,12 @@ slice-write-cells c = omega (arith, below (start (c .before .before .before .bef
 
 returns : tie.Need-returns
 returns c =
-    let hashed = c .before .before .before .before in
-    let s = start (hashed .before .before .before) in
+    let hashed = c .before .before .before in
+    let wanted = hashed .before in
+    let s = start (wanted .before .before .before) in
     store-fixes (s .args .map) (now (s .args .keys)) (now (s .args .work)) (now (s .args .cells)) (s .args .p) (I s) (C s)
-    (hashed .hash-at .result) (c .before .before .value-from .result) (c .value-at .result)
-    refl refl (hashed .hash-at .ensures) (c .before .before .value-from .ensures) (c .value-at .ensures)
+    (hashed .hash-at .result) (c .before .value-from .result) (wanted .value-at .result)
+    refl refl (hashed .hash-at .ensures) (c .before .value-from .ensures) (wanted .value-at .ensures)
 
 pub fill-turn-spec : {M : Type 1} → statement M
 fill-turn-spec =
@@ -103,11 +104,11 @@ fill-turn-spec =
     shared-slice-read-c
     cast-c
     sub-c
+    value-at-requires
     hash-at-requires
     (λ c κs. search needs)
     mul-cells
     slice-read-cells
-    value-at-requires
     mul-cells-2
     slice-write-cells
     (λ c. search needs)
