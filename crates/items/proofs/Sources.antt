@@ -46,7 +46,8 @@ length-values Prefixes b T = length-numbers b T ∙ sym (length-prefixes b T)
 length-values Handles b T = length-splits (delimiters b T) ∙ sym (length-handles (delimiters b T))
 
 -- it fits 16 bits
-pub values-small : (w : Items) (b : ℕ) (T left right : List ℕ) → Known w b T left right → (i : ℕ) → i < length (itemsOf w b T) → getD (valuesOf w b T) i 0 < 65536
+pub values-small : (w : Items) (b : ℕ) (T left right : List ℕ) → Known w b T left right → (i : ℕ) → i < length (itemsOf w b T)
+    → getD (valuesOf w b T) i 0 < 65536
 unfolding valuesOf
 values-small Keys b T left right k i h =
     let p = asked-keys refl (k, h) in rw (key-value-is b T i (p .1)) (key-value-small b T (p .0) i (p .1))

@@ -94,7 +94,8 @@ pub room-work : {map : Map} {keys left right cells work : List ℕ} → Ready ma
     → 6 * map .m + 2 * map .t ≤ length work
 room-work {map} {keys} R room = rw (work-size (map .m) (map .t) (length (itemsOf (map .which) (map .b) keys)) (R .size) (R .all)) (room .forWork)
 
-pub built : {map : Map} {keys left right : List ℕ} {a a₁ b u w v : List ℕ} {n : ℕ} (seed : ℕ) → map .mixed ≡ mixedSeed seed → a₁ ≡ cleared (3 * map .m) a → length a₁ ≡ length a
+pub built : {map : Map} {keys left right : List ℕ} {a a₁ b u w v : List ℕ} {n : ℕ} (seed : ℕ) → map .mixed ≡ mixedSeed seed
+    → a₁ ≡ cleared (3 * map .m) a → length a₁ ≡ length a
     → Queued map keys left right u w n n → length w ≡ length u → v ≡ cleared (6 * map .m + 2 * map .t) w → Ended map keys n a₁ b
     → MapBuilt (map .which) (map .b) seed keys a u (map .t - n) b v
 unfolding Valued Clean valueOf valueAt

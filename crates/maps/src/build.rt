@@ -6,8 +6,8 @@ use crate::fill;
 use crate::peel;
 use items::Items;
 
-// Builds the map from the items over buckets of b rows to their values under the seed. The answer is 0 where it is built, and where the items hold a jam
-// the size of the largest one.
+// Builds the map from the items over buckets of b rows to their values under the seed. The answer is 0 where it is built, and where the
+// items hold a jam the size of the largest one.
 pub fn build(
     which: Items,
     b: usize,

@@ -69,7 +69,8 @@ module _ (T : List ℕ) (x a m b : ℕ) where
       decide-end k = rw (lt-ltb a m h, lt-ltb m b g, le-leb b (length T) l, ne-eqb (bitAt (len T m) x) 0 e, lt-leb x (keyAt T m) k)
 
 -- the 2-fattest number above the node's length and up to last is where the walk probes
-pub probe-is : (T : List ℕ) (node lower last f : ℕ) → lower ≡ len T node → lower < last → last ≤ 63 → Fattest lower last f → f ≡ probeAt T node (last + 1)
+pub probe-is : (T : List ℕ) (node lower last f : ℕ) → lower ≡ len T node → lower < last → last ≤ 63 → Fattest lower last f
+    → f ≡ probeAt T node (last + 1)
 probe-is T node lower last f is h l F =
     let e : last ≡ last + 1 - 1 = omega arith in
     fattest-one (rw (is, e) at F) (probe-fattest T node (last + 1) (omega arith) (omega arith))
