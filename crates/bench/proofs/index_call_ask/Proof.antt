@@ -12,7 +12,9 @@ returns-2 : tie.Need-returns-2
 returns-2 c = ap callCode (rw (c .enum-told .given .1) at (c .before .before .call-ask .ensures))
 
 returns-3 : tie.Need-returns-3
-returns-3 c = c .refused .ensures ∙ ap callCode (rw (c .before .before .a2 .given .1) at (c .before .before .before .before .call-ask .ensures))
+returns-3 c =
+    let said = c .before .before .before .before .call-ask .ensures in
+    c .refused .ensures ∙ ap callCode (rw (c .before .before .a2 .given .1) at said)
 
 pub index-call-ask-spec : {M : Type 1} → statement M
 index-call-ask-spec =

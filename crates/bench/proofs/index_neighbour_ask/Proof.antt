@@ -14,7 +14,9 @@ returns c =
 
 returns-2 : tie.Need-returns-2
 unfolding saidByNeighbour
-returns-2 c = c .refused .ensures ∙ ap neighbourCode (rw (c .before .before .a2 .given .1) at (c .before .before .before .before .neighbour-ask .ensures))
+returns-2 c =
+    let said = c .before .before .before .before .neighbour-ask .ensures in
+    c .refused .ensures ∙ ap neighbourCode (rw (c .before .before .a2 .given .1) at said)
 
 pub index-neighbour-ask-spec : {M : Type 1} → statement M
 index-neighbour-ask-spec =

@@ -1,10 +1,20 @@
 -- `splits::split::parent_len` meets its contract. Assumes nothing.
+use Prim.Native.Nat.{_<_}
 use native.Mathlib.Omega.{arith}
+use lib.ListN.{length}
 use Rattle.tables.specs.Delimiters.{delimiters}
+use Rattle.splits.specs.Splits.{leftEntry, rightEntry}
 use Rattle.splits.proofs.Parents.{ends-apart, parent-by}
 use borrow.Author.Needs.{needs}
 use Rattle.splits.proofs.split.parent_len.Statement.{statement}
 use Rattle.splits.proofs.split.parent_len.Tie as tie
+
+-- the split's first row is one of the table's, and the row after its last is not row 0
+apart : (s : tie.Start) → let T = delimiters (s .args .b) (s .args .keys .now) in
+    (leftEntry T (s .args .m) < length T) × (0 < rightEntry T (s .args .m))
+apart s =
+    let rising = s .pre .rising in
+    ends-apart (delimiters (s .args .b) (s .args .keys .now)) (rising .table) (s .args .m) (rising .split .pos) (rising .split .small)
 
 delimiter-count-requires : tie.Need-delimiter-count-requires
 delimiter-count-requires c κs = search needs
@@ -18,18 +28,11 @@ entry-at-requires-2 c κs = search needs
 len-of-first-requires : tie.Need-len-of-first-requires
 len-of-first-requires c κs =
     let s = c .before .before .before .before .before .before in
-    let split = s .pre .rising .split in (
-      split .bucketed,
-      omega (arith, ends-apart (delimiters (s .args .b) (s .args .keys .now)) (s .pre .rising .table) (s .args .m) (split .pos) (split .small)),
-    )
+    (s .pre .rising .split .bucketed, omega (arith, apart s))
 
 len-of-end-requires : tie.Need-len-of-end-requires
 len-of-end-requires c κs =
-    let s = c .before .before .before .before .before .before .before in
-    let split = s .pre .rising .split in (
-      search needs,
-      omega (arith, ends-apart (delimiters (s .args .b) (s .args .keys .now)) (s .pre .rising .table) (s .args .m) (split .pos) (split .small)),
-    )
+    (search needs, omega (arith, apart (c .before .before .before .before .before .before .before)))
 
 larger-requires : tie.Need-larger-requires
 larger-requires c κs = search needs
