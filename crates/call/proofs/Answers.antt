@@ -7,6 +7,7 @@ use native.Mathlib.Omega.{arith}
 use borrow.Author.Tests.{ltb-true, eqb-true, lt-ltb, eq-eqb}
 use lib.Dec.{eqb, ltb}
 use lib.ListN.{length, drop}
+use Rattle.basics.proofs.Bools.{differ}
 use Rattle.words.specs.Keys.{prefixItem}
 use Rattle.cells.specs.Cells.{cellCount, mapValue}
 use Rattle.tables.specs.Tables.{keyAt}
@@ -26,8 +27,8 @@ module _ (keys : List ℕ) (x : ℕ) where
   -- and a row that is answered holds x
   tests-of : (r q : ℕ) (s t : Bool) → cond s (cond t (row r) absent) absent ≡ row q → (s ≡ true) × (t ≡ true) × (r ≡ q)
   tests-of r q true true e = (refl, refl, cc)
-  tests-of r q true false e = absurd (let z : _≡_ {A = ℕ} 0 1 = cc in omega arith)
-  tests-of r q false t e = absurd (let z : _≡_ {A = ℕ} 0 1 = cc in omega arith)
+  tests-of r q true false e = differ (cc)
+  tests-of r q false t e = differ (cc)
 
   row-said : (r q : ℕ) → rowSays keys r x ≡ row q → (q < length keys) × (keyAt keys q ≡ x)
   row-said r q e =
@@ -35,7 +36,7 @@ module _ (keys : List ℕ) (x : ℕ) where
       rw (← t .2) (ltb-true r (length keys) (t .0), eqb-true (keyAt keys r) x (t .1))
 
   past-length : (t : Bool) (said : CallSaid) (q : ℕ) → cond t absent said ≡ row q → said ≡ row q
-  past-length true said q e = absurd (let z : _≡_ {A = ℕ} 0 1 = cc in omega arith)
+  past-length true said q e = differ (cc)
   past-length false said q e = e
 
   pub rule-said : (b seed₁ seed₂ : ℕ) (cells : List ℕ) (q : ℕ) → ruleSays keys b seed₁ seed₂ cells x ≡ row q → (q < length keys) × (keyAt keys q ≡ x)

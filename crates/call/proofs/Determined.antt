@@ -3,23 +3,21 @@ use mathlib.Core.Path.{_≡_, refl, sym, ap, _∙_}
 use mathlib.Core.List.{List}
 use Prim.Native.Nat.{ℕ}
 use native.Mathlib.Omega.{arith}
+use Rattle.basics.proofs.Bools.{differ}
 use Rattle.refusals.specs.Numbers.{BuildSaid, taken, refused}
-use Rattle.refusals.proofs.Naming.{refusal-told}
+use Rattle.refusals.proofs.Naming.{refusal-told, not-taken}
 use Rattle.items.specs.Items.{keyValues, prefixItems, bucketNumbers}
-use Rattle.maps.specs.Jam.{Jammed, Jamless}
+use Rattle.jams.specs.Jam.{Jammed, Jamless}
 use Rattle.maps.proofs.Determined.{fillings-alike}
 use Rattle.call.specs.Build.{CallFilled, MapsBuilt, jam₁, jam₂, filled, CallBuilt, refusal, verdict}
 use Rattle.call.specs.Determined.{CallAlike, OneCallBuild, BuildDetermined, AskDetermined}
 use Rattle.call.specs.declared.ask.CallAnswer.the-variants as answer
 
-not-taken : {said : BuildSaid} (k i : ℕ) → said ≡ refused k i → said ≡ taken → ⊥
-not-taken k i e f = let z : _≡_ {A = ℕ} 0 1 = cc in omega arith
-
 -- both refused with the same number, and the memory the same
 same-refusal : {keys : List ℕ} {b seed₁ seed₂ : ℕ} {said said′ : BuildSaid} {cells work cells′ work′ : List ℕ} (k i : ℕ) → said ≡ refused k i
     → said′ ≡ refused k i → cells ≡ cells′ → work ≡ work′ → OneCallBuild keys b seed₁ seed₂ said cells work said′ cells′ work′
 same-refusal k i e f c w =
-    record { answer = e ∙ sym f; works = w; refused = λ none. c; accepted = λ t. absurd (not-taken k i e t) }
+    record { answer = e ∙ sym f; works = w; refused = λ none. c; accepted = λ t. not-taken k i e t }
 
 two-fillings : (keys : List ℕ) (b seed₁ seed₂ : ℕ) (cells cells₁ cells₂ : List ℕ) → CallFilled keys b seed₁ seed₂ cells cells₁
     → CallFilled keys b seed₁ seed₂ cells cells₂ → CallAlike keys b seed₁ seed₂ cells₁ cells₂
@@ -49,18 +47,18 @@ maps-determined keys b s t cells work r c₁ w₁ r′ c₂ w₂ (filled N N′ 
 pub build-determined : BuildDetermined
 build-determined keys b s t cells work r c₁ w₁ r′ c₂ w₂ (refusal k i j e c w) (refusal k′ i′ j′ e′ c′ w′) =
     same-refusal k i e (e′ ∙ sym j′ ∙ j) (c ∙ sym c′) (w ∙ sym w′)
-build-determined keys b s t cells work r c₁ w₁ r′ c₂ w₂ (refusal k i j e c w) (verdict j′ M) = absurd (not-taken k i j j′)
-build-determined keys b s t cells work r c₁ w₁ r′ c₂ w₂ (verdict j M) (refusal k i j′ e c w) = absurd (not-taken k i j′ j)
+build-determined keys b s t cells work r c₁ w₁ r′ c₂ w₂ (refusal k i j e c w) (verdict j′ M) = not-taken k i j j′
+build-determined keys b s t cells work r c₁ w₁ r′ c₂ w₂ (verdict j M) (refusal k i j′ e c w) = not-taken k i j′ j
 build-determined keys b s t cells work r c₁ w₁ r′ c₂ w₂ (verdict j M) (verdict j′ M′) =
     maps-determined keys b s t cells work r c₁ w₁ r′ c₂ w₂ M M′
 
 pub ask-determined : AskDetermined
 ask-determined (answer.Row r) (answer.Row q) e = cc
-ask-determined (answer.Row r) answer.Absent e = absurd (let z : _≡_ {A = ℕ} 0 1 = cc in omega arith)
-ask-determined (answer.Row r) (answer.Refused q) e = absurd (let z : _≡_ {A = ℕ} 0 1 = cc in omega arith)
-ask-determined answer.Absent (answer.Row q) e = absurd (let z : _≡_ {A = ℕ} 0 1 = cc in omega arith)
+ask-determined (answer.Row r) answer.Absent e = differ (cc)
+ask-determined (answer.Row r) (answer.Refused q) e = differ (cc)
+ask-determined answer.Absent (answer.Row q) e = differ (cc)
 ask-determined answer.Absent answer.Absent e = refl
-ask-determined answer.Absent (answer.Refused q) e = absurd (let z : _≡_ {A = ℕ} 0 1 = cc in omega arith)
-ask-determined (answer.Refused r) (answer.Row q) e = absurd (let z : _≡_ {A = ℕ} 0 1 = cc in omega arith)
-ask-determined (answer.Refused r) answer.Absent e = absurd (let z : _≡_ {A = ℕ} 0 1 = cc in omega arith)
+ask-determined answer.Absent (answer.Refused q) e = differ (cc)
+ask-determined (answer.Refused r) (answer.Row q) e = differ (cc)
+ask-determined (answer.Refused r) answer.Absent e = differ (cc)
 ask-determined (answer.Refused r) (answer.Refused q) e = ap answer.Refused (refusal-told r q (cc) (cc))

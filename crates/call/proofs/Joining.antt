@@ -6,7 +6,7 @@ use native.Mathlib.Omega.{arith}
 use lib.ListN.{length, getD, take, drop, replicate, length-drop, drop-of-length-le}
 use borrow.Rule.Slice.PartMut.{putMid}
 use lib.Seq.{drop-drop, length-take-le, getD-take}
-use Rattle.cells.specs.Cells.{segment, cellCount}
+use Rattle.cells.specs.Cells.{segment, cellCount, workCount}
 use Rattle.cells.specs.Memory.{cleared}
 use Rattle.cells.proofs.Values.{value-take}
 use Rattle.cells.proofs.Sweeping.{drop-cleared, cleared-over, cleared-within}
@@ -15,8 +15,8 @@ use Rattle.tables.specs.Lengths.{callCells, callWork}
 use Rattle.tables.proofs.Delimiting.{buckets-le}
 use Rattle.items.specs.Items.{Sorted, keyValues, prefixItems, bucketNumbers}
 use Rattle.items.proofs.Values.{length-prefixes}
-use Rattle.maps.specs.Jam.{Jammed, Jamless}
-use Rattle.maps.specs.Built.{Built, Filled, Room, workCount}
+use Rattle.jams.specs.Jam.{Jammed, Jamless}
+use Rattle.maps.specs.Built.{Built, Filled, Room}
 use Rattle.refusals.specs.Numbers.{taken, refused}
 use Rattle.call.specs.Build.{CallFilled, MapsBuilt, jam₁, jam₂, filled}
 use Rattle.call.specs.Inner.{Buildable, KeysBuilt, PrefixesBuilt}

@@ -11,7 +11,7 @@ use Rattle.cells.specs.Memory.{cleared}
 use Rattle.tables.specs.Tables.{mostKeys, firstFall}
 use Rattle.tables.specs.Lengths.{callCells, callWork}
 use Rattle.items.specs.Items.{keyValues, prefixItems, bucketNumbers}
-use Rattle.maps.specs.Jam.{Jammed, Jamless}
+use Rattle.jams.specs.Jam.{Jammed, Jamless}
 use Rattle.maps.specs.Built.{Filled}
 
 -- the first of refusals 1 to 4 that applies; `taken` if none does

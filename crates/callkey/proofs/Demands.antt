@@ -7,6 +7,7 @@ use native.Mathlib.Omega.{arith}
 use borrow.Author.Tests.{ltb-false, le-ltb}
 use lib.Dec.{ltb}
 use lib.ListN.{getD}
+use Rattle.basics.proofs.Bools.{differ}
 use Rattle.refusals.proofs.Naming.{refusal-told}
 use Rattle.callkey.specs.Fields.{joined, parted, Fit, none, one}
 use Rattle.callkey.specs.CallKeys.{Said, key, fields, refused, widths, lastSecond, packSays, unpackSays, saidByPacker, saidByUnpacker}
@@ -35,10 +36,10 @@ within-fits d s t b W =
 by-tests : (p q r u : Bool) (n k : ℕ) → cond p (refused 7 0) (cond q (refused 7 0) (cond r (refused 7 0) (cond u (refused 7 0) (key n)))) ≡ key k
     → (p ≡ false) × (q ≡ false) × (r ≡ false) × (u ≡ false) × (n ≡ k)
 by-tests false false false false n k e = (refl, refl, refl, refl, cc)
-by-tests true q r u n k e = absurd (let z : _≡_ {A = ℕ} 0 1 = cc in omega arith)
-by-tests false true r u n k e = absurd (let z : _≡_ {A = ℕ} 0 1 = cc in omega arith)
-by-tests false false true u n k e = absurd (let z : _≡_ {A = ℕ} 0 1 = cc in omega arith)
-by-tests false false false true n k e = absurd (let z : _≡_ {A = ℕ} 0 1 = cc in omega arith)
+by-tests true q r u n k e = differ (cc)
+by-tests false true r u n k e = differ (cc)
+by-tests false false true u n k e = differ (cc)
+by-tests false false false true n k e = differ (cc)
 
 -- what the packer takes is within the limits, and its key is the fields joined
 taken : (d s t b k : ℕ) → packSays d s t b ≡ key k → Within d s t b × (joined widths (d ∷ s ∷ t ∷ b ∷ []) ≡ k)
@@ -72,7 +73,7 @@ key-fits d s t b k e = let r = taken d s t b k e in rw (sym (r .1)) (join-fits (
 by-test : (p : Bool) (f₀ f₁ f₂ f₃ d s t b : ℕ) → cond p (refused 7 0) (fields f₀ f₁ f₂ f₃) ≡ fields d s t b
     → (p ≡ false) × (f₀ ≡ d) × (f₁ ≡ s) × (f₂ ≡ t) × (f₃ ≡ b)
 by-test false f₀ f₁ f₂ f₃ d s t b e = (refl, cc, cc, cc, cc)
-by-test true f₀ f₁ f₂ f₃ d s t b e = absurd (let z : _≡_ {A = ℕ} 0 1 = cc in omega arith)
+by-test true f₀ f₁ f₂ f₃ d s t b e = differ (cc)
 
 -- fields that fit their widths are within the limits of day, stop and block
 limits : (d s t b : ℕ) → Fit widths (d ∷ s ∷ t ∷ b ∷ []) → t ≤ lastSecond → Within d s t b
@@ -91,8 +92,8 @@ key-packs-back d s t b k h e =
 
 pub packer-determined : PackerDetermined
 packer-determined (packed.Key a) (packed.Key b) e = cc
-packer-determined (packed.Key a) (packed.Refused r) e = absurd (let z : _≡_ {A = ℕ} 0 1 = cc in omega arith)
-packer-determined (packed.Refused r) (packed.Key b) e = absurd (let z : _≡_ {A = ℕ} 0 1 = cc in omega arith)
+packer-determined (packed.Key a) (packed.Refused r) e = differ (cc)
+packer-determined (packed.Refused r) (packed.Key b) e = differ (cc)
 packer-determined (packed.Refused r) (packed.Refused q) e = ap packed.Refused (refusal-told r q (cc) (cc))
 
 abbrev made : ℕ → ℕ → ℕ → ℕ → Fields
@@ -103,6 +104,6 @@ same-fields a b p q r u = let z : made (a .day) (a .stop) (a .second) (a .block)
 
 pub unpacker-determined : UnpackerDetermined
 unpacker-determined (unpacked.Fields a) (unpacked.Fields b) e = ap unpacked.Fields (same-fields a b (cc) (cc) (cc) (cc))
-unpacker-determined (unpacked.Fields a) (unpacked.Refused r) e = absurd (let z : _≡_ {A = ℕ} 0 1 = cc in omega arith)
-unpacker-determined (unpacked.Refused r) (unpacked.Fields b) e = absurd (let z : _≡_ {A = ℕ} 0 1 = cc in omega arith)
+unpacker-determined (unpacked.Fields a) (unpacked.Refused r) e = differ (cc)
+unpacker-determined (unpacked.Refused r) (unpacked.Fields b) e = differ (cc)
 unpacker-determined (unpacked.Refused r) (unpacked.Refused q) e = ap unpacked.Refused (refusal-told r q (cc) (cc))

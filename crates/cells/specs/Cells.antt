@@ -13,6 +13,10 @@ segment t = 42 * t / 100 + 3
 abbrev pub cellCount : ℕ → ℕ
 cellCount t = 3 * segment t
 
+-- 2 × C(t) + 2 × t: the numbers of work that building a map of t items takes
+abbrev pub workCount : ℕ → ℕ
+workCount t = 2 * cellCount t + 2 * t
+
 -- the cell of a hash in segment j of m cells: h mod M, M + (h / 2^21 mod M), 2 M + (h / 2^42 mod M)
 unfoldable pub cellOf : ℕ → ℕ → ℕ → ℕ
 cellOf m j h = j * m + h / 2 ^ (21 * j) % m

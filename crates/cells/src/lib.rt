@@ -6,7 +6,7 @@ ghost use mathlib.Core.Path.{_≡_};
 ghost use Prim.Native.Nat.{_*_, _≤_, _<_};
 ghost use lib.ListN.{length};
 ghost use Rattle.words.specs.Inner.{Reciprocal};
-ghost use Rattle.cells.specs.Cells.{segment, cellCount, cellOf, Segment, valueAt, mapValue};
+ghost use Rattle.cells.specs.Cells.{segment, cellCount, workCount, cellOf, Segment, valueAt, mapValue};
 ghost use Rattle.cells.specs.Memory.{cleared};
 use words::remainder::reciprocal;
 use words::remainder::remainder;
@@ -27,6 +27,14 @@ pub fn cell_count(t: usize) -> usize
     ensures { λ r. ⌜ (r ≡ cellCount t) × (r ≤ 41295) ⌝ }
 {
     3 * segment_size(t)
+}
+
+// The numbers of work that building a map of t items takes.
+pub fn work_count(t: usize) -> usize
+    requires { ⌜ t ≤ 32768 ⌝ }
+    ensures { λ r. ⌜ r ≡ workCount t ⌝ }
+{
+    2 * cell_count(t) + 2 * t
 }
 
 // The cell that the hash h touches in segment j, of m cells each, from the reciprocal r of m: a map has one, and needs no division for

@@ -8,29 +8,25 @@ use borrow.Author.Tests.{ltb-false}
 use lib.Dec.{ltb}
 use lib.ListN.{length, getD, take, drop, length-take, length-drop}
 use Rattle.refusals.specs.Numbers.{BuildSaid, taken, refused}
-use Rattle.refusals.proofs.Naming.{test-passed}
+use Rattle.refusals.proofs.Naming.{test-passed, not-taken}
 use Rattle.cells.specs.Cells.{cellCount, mapValue}
 use Rattle.tables.specs.Tables.{keyAt, mostKeys, Table, firstFall}
-use Rattle.tables.specs.Lengths.{callCells, callWork, handleCells, neighbourWork}
+use Rattle.tables.specs.Lengths.{handleCount, callCells, callWork, handleCells, neighbourWork}
 use Rattle.tables.proofs.Rising.{no-fall-table}
 use Rattle.splits.specs.Splits.{leftEntry, rightEntry, handleItem, handleSplit, leftStore, rightStore}
 use Rattle.splits.proofs.Stores.{entered-length}
 use Rattle.items.specs.Items.{Sorted, handleItems, handleSplits}
 use Rattle.items.proofs.Handling.{length-handles, handle-is, split-is}
-use Rattle.maps.specs.Jam.{Jamless}
+use Rattle.jams.specs.Jam.{Jamless}
 use Rattle.maps.specs.Built.{Filled}
 use Rattle.call.specs.Build.{callJudged, CallFilled, MapsBuilt, jam₁, jam₂, CallBuilt}
 use Rattle.call.specs.Build as cb
 use Rattle.call.specs.Inner.{Askable}
 use Rattle.neighbour.specs.Build.{neighbourJudged, StoresBuilt, jam₃, NeighbourBuilt}
 use Rattle.neighbour.specs.Build as nb
-use Rattle.neighbour.specs.Walk.{Stored}
-use Rattle.neighbour.specs.Ask.{handleCount}
+use Rattle.walks.specs.Walk.{Stored}
 use Rattle.neighbour.proofs.Asking.{stored-by}
 use Rattle.index.specs.Demands.{Words}
-
-never : {A : Type 0} (k i : ℕ) → taken ≡ refused k i → A
-never k i e = absurd (let z : _≡_ {A = ℕ} 0 1 = cc in omega arith)
 
 -- an accepted call build: the tests passed, and the store filled
 pub record CallAccepted (keys : List ℕ) (b seed₁ seed₂ : ℕ) (cells cells′ : List ℕ) : Type 0 where
@@ -68,9 +64,9 @@ call-tests keys b cells work e =
 
 pub call-accepted : (keys : List ℕ) (b seed₁ seed₂ : ℕ) (cells work cells′ work′ : List ℕ) → CallBuilt keys b seed₁ seed₂ cells work taken cells′ work′
     → CallAccepted keys b seed₁ seed₂ cells cells′
-call-accepted keys b s t cells work cells′ work′ (cb.refusal k i j e c w) = never k i e
-call-accepted keys b s t cells work cells′ work′ (cb.verdict j (jam₁ J e c w)) = never 5 1 e
-call-accepted keys b s t cells work cells′ work′ (cb.verdict j (jam₂ N J e c w)) = never 5 2 e
+call-accepted keys b s t cells work cells′ work′ (cb.refusal k i j e c w) = not-taken k i e refl
+call-accepted keys b s t cells work cells′ work′ (cb.verdict j (jam₁ J e c w)) = not-taken 5 1 e refl
+call-accepted keys b s t cells work cells′ work′ (cb.verdict j (jam₂ N J e c w)) = not-taken 5 2 e refl
 call-accepted keys b s t cells work cells′ work′ (cb.verdict j (cb.filled N N′ e F w)) =
     let T = call-tests keys b cells work j in
     record { few = T .few; two = T .two; most = T .most; rises = T .rises; filled = F; cellsLong = T .cellsLong }
@@ -95,17 +91,17 @@ module _ {keys : List ℕ} {b seed₁ seed₂ : ℕ} {cells cells′ : List ℕ}
 pub record NeighbourAccepted (keys : List ℕ) (seed : ℕ) (handles left right : List ℕ) : Type 0 where
   pub few : length keys ≤ 32768
   pub rises : firstFall keys ≡ 0
-  pub handlesLong : cellCount (handleCount keys) ≤ length handles
+  pub handlesLong : cellCount (handleCount (length keys)) ≤ length handles
   pub leftLong : length keys ≤ length left
   pub rightLong : length keys ≤ length right
-  pub stored : Stored keys (mapValue handles (handleCount keys) seed) left right
+  pub stored : Stored keys (mapValue handles (handleCount (length keys)) seed) left right
 
 -- a filled map 3 gives each of its items the split that it stands for
 map-stored : (keys : List ℕ) (seed : ℕ) (handles handles′ : List ℕ) → Filled seed (handleItems keys) (handleSplits keys) handles handles′
-    → (i : ℕ) → i + 2 < length keys → mapValue handles′ (handleCount keys) seed (handleItem keys (handleSplit keys i)) ≡ handleSplit keys i
+    → (i : ℕ) → i + 2 < length keys → mapValue handles′ (handleCount (length keys)) seed (handleItem keys (handleSplit keys i)) ≡ handleSplit keys i
 map-stored keys seed handles handles′ F i h =
     let there : i < length (handleItems keys) = omega (arith, length-handles keys) in
-    ap (λ (x : ℕ). mapValue handles′ (handleCount keys) seed x) (sym (handle-is keys i h))
+    ap (λ (x : ℕ). mapValue handles′ (handleCount (length keys)) seed x) (sym (handle-is keys i h))
     ∙ ap (λ (t : ℕ). mapValue handles′ t seed (getD (handleItems keys) i 0)) (sym (length-handles keys))
     ∙ F .valued i there ∙ split-is keys i h
 
@@ -129,11 +125,11 @@ neighbour-filled keys seed handles left right work handles′ left′ right′ e
       handlesLong = omega (arith, F .long);
       leftLong = rw (el, entered-length n (leftEntry keys) left ll) ll;
       rightLong = rw (er, entered-length n (rightEntry keys) right rl) rl;
-      stored = rw (el, er) (stored-by keys (mapValue handles′ (handleCount keys) seed) left right (map-stored keys seed handles handles′ F));
+      stored = rw (el, er) (stored-by keys (mapValue handles′ (handleCount (length keys)) seed) left right (map-stored keys seed handles handles′ F));
     }
 
 pub neighbour-accepted : (keys : List ℕ) (seed : ℕ) (handles left right work handles′ left′ right′ work′ : List ℕ)
     → NeighbourBuilt keys seed handles left right work taken handles′ left′ right′ work′ → NeighbourAccepted keys seed handles′ left′ right′
-neighbour-accepted keys s h l r w h′ l′ r′ w′ (nb.refusal k i j e a b c d) = never k i e
-neighbour-accepted keys s h l r w h′ l′ r′ w′ (nb.verdict j (jam₃ J e a b c d)) = never 5 3 e
+neighbour-accepted keys s h l r w h′ l′ r′ w′ (nb.refusal k i j e a b c d) = not-taken k i e refl
+neighbour-accepted keys s h l r w h′ l′ r′ w′ (nb.verdict j (jam₃ J e a b c d)) = not-taken 5 3 e refl
 neighbour-accepted keys s h l r w h′ l′ r′ w′ (nb.verdict j (nb.filled N e F el er d)) = neighbour-filled keys s h l r w h′ l′ r′ j F el er

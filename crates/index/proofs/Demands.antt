@@ -8,13 +8,15 @@ use native.Mathlib.Nat.{le-refl}
 use native.Mathlib.Omega.{arith}
 use lib.ListN.{length}
 use Rattle.refusals.specs.Numbers.{BuildSaid, taken, refused}
+use Rattle.refusals.proofs.Naming.{not-taken}
 use Rattle.words.specs.Fat.{binaryDigits, done}
 use Rattle.words.proofs.Probing.{probes-from}
 use Rattle.tables.specs.Tables.{keyAt, Table, smaller, sharedByAll}
+use Rattle.tables.specs.Lengths.{handleCount}
 use Rattle.tables.proofs.Rising.{no-fall-table, keys-rise, keys-above}
 use Rattle.cells.specs.Cells.{mapValue}
 use Rattle.items.specs.Items.{prefixItems, handleItems}
-use Rattle.maps.specs.Jam.{Jammed}
+use Rattle.jams.specs.Jam.{Jammed}
 use Rattle.call.specs.Build.{MapsBuilt, jam₁, jam₂, CallBuilt}
 use Rattle.call.specs.Build as cb
 use Rattle.call.specs.Ask.{CallSaid, row, absent, callSays, ruleSays}
@@ -23,19 +25,16 @@ use Rattle.call.proofs.Answers.{rule-absent, rule-said}
 use Rattle.call.proofs.Planned.{planned-row}
 use Rattle.neighbour.specs.Build.{StoresBuilt, jam₃, NeighbourBuilt}
 use Rattle.neighbour.specs.Build as nb
-use Rattle.neighbour.specs.Walk.{Walk, pathWalk}
-use Rattle.neighbour.specs.Ask.{place, standsAt, handleCount, neighbourSays}
+use Rattle.walks.specs.Walk.{Walk, pathWalk}
+use Rattle.neighbour.specs.Ask.{place, standsAt, neighbourSays}
 use Rattle.neighbour.proofs.Asking.{stands-iff, path-probes, stored-says, sizes-pass, ask-six}
-use Rattle.neighbour.proofs.Answering.{stored-walk}
-use Rattle.neighbour.proofs.Deciding.{smaller-low, smaller-high, smaller-most}
+use Rattle.walks.proofs.Answering.{stored-walk}
+use Rattle.walks.proofs.Deciding.{smaller-low, smaller-high, smaller-most}
 use Rattle.index.specs.Demands.{Words, NotIn, CallRefusesJams, NeighbourRefusesJams, PlannedGetsItsRow, RowsAreSorted, OthersAreAbsent, OneKeyForEachRow, Monotone, Searched, SearchIsExact, SixAtMost}
 use Rattle.index.proofs.Accepted.{CallAccepted, call-accepted, accepted-sorted, accepted-askable, NeighbourAccepted, neighbour-accepted}
 
 never : {A : Type 0} {said : BuildSaid} {k i l j : ℕ} → said ≡ refused k i → said ≡ refused l j → (i ≡ j → ⊥) → A
 never e f apart = absurd (apart (cc))
-
-not-taken : {A : Type 0} {said : BuildSaid} (k i : ℕ) → said ≡ refused k i → said ≡ taken → A
-not-taken k i e f = absurd (let z : _≡_ {A = ℕ} 0 1 = cc in omega arith)
 
 one-two : _≡_ {A = ℕ} 1 2 → ⊥
 one-two e = omega arith
@@ -137,7 +136,7 @@ search-is-exact keys seed handles left right work h l r w′ w two B x hx =
     let A = neighbour-accepted keys seed handles left right work h l r w′ B in
     let T = no-fall-table keys w (A .rises) in
     let c = smaller keys x in
-    let walked = stored-walk keys T x (mapValue h (handleCount keys) seed) l r (A .stored) in (
+    let walked = stored-walk keys T x (mapValue h (handleCount (length keys)) seed) l r (A .stored) in (
       length (pathWalk keys x .probed),
       (
         standsAt keys x c,

@@ -3,8 +3,9 @@ use mathlib.Core.Path.{_≡_, refl, sym, ap, _∙_}
 use mathlib.Core.List.{List}
 use Prim.Native.Nat.{ℕ}
 use native.Mathlib.Omega.{arith}
+use Rattle.basics.proofs.Bools.{differ}
 use Rattle.refusals.specs.Numbers.{BuildSaid, taken, refused}
-use Rattle.refusals.proofs.Naming.{refusal-told}
+use Rattle.refusals.proofs.Naming.{refusal-told, not-taken}
 use Rattle.tables.specs.Lengths.{told}
 use Rattle.tables.specs.declared.lengths.Lengths.{Lengths}
 use Rattle.tables.specs.declared.lengths.Lend.{Lend}
@@ -14,9 +15,6 @@ use Rattle.maps.proofs.Determined.{fillings-alike}
 use Rattle.neighbour.specs.Build.{StoresBuilt, jam₃, filled, NeighbourBuilt, refusal, verdict}
 use Rattle.neighbour.proofs.Asking.{said-injective}
 use Rattle.index.specs.Determined.{OneNeighbourBuild, NeighbourBuildDetermined, NeighbourAskDetermined, LengthsDetermined}
-
-not-taken : {A : Type 0} {said : BuildSaid} (k i : ℕ) → said ≡ refused k i → said ≡ taken → A
-not-taken k i e f = absurd (let z : _≡_ {A = ℕ} 0 1 = cc in omega arith)
 
 pub neighbour-build-determined : NeighbourBuildDetermined
 neighbour-build-determined keys s h l r w said h₁ l₁ r₁ w₁ said′ h₂ l₂ r₂ w₂ (refusal k i j e a b c d) (refusal k′ i′ j′ e′ a′ b′ c′ d′) = record {
@@ -64,6 +62,6 @@ same-lengths a b p q r s t u =
 
 pub lengths-determined : LengthsDetermined
 lengths-determined (lend.Lengths a) (lend.Lengths b) e = ap lend.Lengths (same-lengths a b (cc) (cc) (cc) (cc) (cc) (cc))
-lengths-determined (lend.Lengths a) (lend.Refused r) e = absurd (let z : _≡_ {A = ℕ} 0 1 = cc in omega arith)
-lengths-determined (lend.Refused r) (lend.Lengths b) e = absurd (let z : _≡_ {A = ℕ} 0 1 = cc in omega arith)
+lengths-determined (lend.Lengths a) (lend.Refused r) e = differ (cc)
+lengths-determined (lend.Refused r) (lend.Lengths b) e = differ (cc)
 lengths-determined (lend.Refused r) (lend.Refused q) e = ap lend.Refused (refusal-told r q (cc) (cc))

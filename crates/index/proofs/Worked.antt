@@ -10,12 +10,13 @@ use Rattle.words.specs.Fat.{fattestFrom}
 use Rattle.cells.specs.Cells.{mapValue}
 use Rattle.tables.specs.Tables.{keyAt, Table, count, smaller, sharedWith, sharedByAll}
 use Rattle.tables.specs.Buckets.{bucketLength}
+use Rattle.tables.specs.Lengths.{handleCount}
 use Rattle.splits.specs.Splits.{left, right, rootTo, parentLen, handleLen, leftEntry, rightEntry}
-use Rattle.neighbour.specs.Walk.{Walk, accepted, descend, decide, walk, pathTo, pathWalk, storeWalk}
-use Rattle.neighbour.specs.Ask.{place, standsAt, handleCount, neighbourSays}
-use Rattle.neighbour.proofs.Answering.{stored-walk}
+use Rattle.walks.specs.Walk.{Walk, accepted, descend, decide, walk, pathTo, pathWalk, storeWalk}
+use Rattle.neighbour.specs.Ask.{place, standsAt, neighbourSays}
+use Rattle.walks.proofs.Answering.{stored-walk}
 use Rattle.neighbour.proofs.Asking.{stored-says, sizes-pass}
-use Rattle.neighbour.proofs.Testing.{tableb, table-by}
+use Rattle.walks.proofs.Testing.{tableb, table-by}
 use Rattle.index.specs.Worked.{eleven, three, AfterBuild, Gives, ProbesAt, worked, AllHold}
 use Rattle.index.proofs.Accepted.{neighbour-accepted}
 
@@ -28,7 +29,7 @@ gives T t x seed h l r w h′ l′ r′ w′ B =
 probes-at : (T : List ℕ) → Table T → (x : ℕ) → ProbesAt T x (pathWalk T x .probed)
 probes-at T t x seed h l r w h′ l′ r′ w′ B =
     let A = neighbour-accepted T seed h l r w h′ l′ r′ w′ B in
-    ap (λ (v : Walk). v .probed) (stored-walk T t x (mapValue h′ (handleCount T) seed) l′ r′ (A .stored))
+    ap (λ (v : Walk). v .probed) (stored-walk T t x (mapValue h′ (handleCount (length T)) seed) l′ r′ (A .stored))
 
 three-table : Table three
 unfolding tableb

@@ -9,13 +9,14 @@ use Rattle.refusals.specs.Numbers.{BuildSaid, taken, refused}
 use Rattle.words.specs.Fat.{binaryDigits}
 use Rattle.cells.specs.Cells.{mapValue}
 use Rattle.tables.specs.Tables.{keyAt, smaller, sharedByAll}
+use Rattle.tables.specs.Lengths.{handleCount}
 use Rattle.items.specs.Items.{prefixItems, handleItems}
-use Rattle.maps.specs.Jam.{Jammed}
+use Rattle.jams.specs.Jam.{Jammed}
 use Rattle.call.specs.Build.{callJudged, CallBuilt}
 use Rattle.call.specs.Ask.{row, absent, callSays}
 use Rattle.neighbour.specs.Build.{neighbourJudged, NeighbourBuilt}
-use Rattle.neighbour.specs.Walk.{storeWalk}
-use Rattle.neighbour.specs.Ask.{place, handleCount, neighbourSays}
+use Rattle.walks.specs.Walk.{storeWalk}
+use Rattle.neighbour.specs.Ask.{place, neighbourSays}
 
 -- the keys have 64 bits, as every table that an entry is lent
 abbrev pub Words : List ℕ → Type 0
@@ -81,7 +82,7 @@ Monotone =
 -- with L the leading bits that all table keys share it is at most the number of binary digits of 63 - L, which is six at most
 pub record Searched (keys : List ℕ) (seed : ℕ) (handles left right : List ℕ) (x probes : ℕ) (stands : Bool) : Type 0 where
   pub says : neighbourSays keys handles left right seed x ≡ place (smaller keys x) probes stands
-  pub counted : probes ≡ length (storeWalk keys x (mapValue handles (handleCount keys) seed) left right .probed)
+  pub counted : probes ≡ length (storeWalk keys x (mapValue handles (handleCount (length keys)) seed) left right .probed)
   pub few : probes ≤ binaryDigits (63 - sharedByAll keys)
   pub six : binaryDigits (63 - sharedByAll keys) ≤ 6
   pub where-it-stands : (stands ≡ true) ↔ ((r : ℕ) × (r < length keys) × (keyAt keys r ≡ x))

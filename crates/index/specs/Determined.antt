@@ -10,7 +10,7 @@ use Rattle.items.specs.Items.{handleItems}
 use Rattle.maps.specs.Determined.{Alike}
 use Rattle.neighbour.specs.Build.{NeighbourBuilt}
 use Rattle.neighbour.specs.Ask.{saidByNeighbour}
-use Rattle.neighbour.specs.declared.NeighbourAnswer.{NeighbourAnswer}
+use Rattle.neighbour.specs.declared.ask.NeighbourAnswer.{NeighbourAnswer}
 
 -- two results of one neighbour build: one answer, one `left`, one `right`, one work; the same handle cells, but where it accepts they are alike
 pub record OneNeighbourBuild (keys : List ℕ) (seed : ℕ) (said : BuildSaid) (handles left right work : List ℕ) (said′ : BuildSaid)

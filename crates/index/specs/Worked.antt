@@ -8,10 +8,11 @@ use Rattle.refusals.specs.Numbers.{taken}
 use Rattle.cells.specs.Cells.{mapValue}
 use Rattle.tables.specs.Tables.{keyAt}
 use Rattle.tables.specs.Buckets.{bucketLength}
+use Rattle.tables.specs.Lengths.{handleCount}
 use Rattle.splits.specs.Splits.{len, left, right, root, handleLen}
 use Rattle.neighbour.specs.Build.{NeighbourBuilt}
-use Rattle.neighbour.specs.Walk.{storeWalk}
-use Rattle.neighbour.specs.Ask.{place, handleCount, neighbourSays}
+use Rattle.walks.specs.Walk.{storeWalk}
+use Rattle.neighbour.specs.Ask.{place, neighbourSays}
 
 -- source 000, figure 1: 13-bit strings, each moved to the top of a key
 abbrev pub eleven : List ℕ
@@ -36,7 +37,7 @@ Gives T x before probes stands = AfterBuild T (λ seed handles left right. neigh
 -- asking x probes these lengths
 abbrev pub ProbesAt : List ℕ → ℕ → List ℕ → Type 0
 ProbesAt T x lengths =
-    AfterBuild T (λ seed handles left right. storeWalk T x (mapValue handles (handleCount T) seed) left right .probed ≡ lengths)
+    AfterBuild T (λ seed handles left right. storeWalk T x (mapValue handles (handleCount (length T)) seed) left right .probed ≡ lengths)
 
 -- (1) bucket lengths for B = 3, (2) len of the splits, (3) the root, (4) handle lengths, (5) split 6 covers rows 5 to 8, (6) asking row 6's key,
 -- (7) to (10) the four asks of the example of rowcheck

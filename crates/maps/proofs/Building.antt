@@ -8,23 +8,24 @@ use mathlib.Core.Logic.{_⊎_, inl, inr, ⊎-elim}
 use Prim.Native.Nat.{ℕ, _+_, _-_, _*_, _≤_, _<_}
 use native.Mathlib.Omega.{arith}
 use lib.ListN.{length, getD}
+use Rattle.basics.proofs.Bools.{both}
 use Rattle.words.specs.Mix.{itemHash}
 use Rattle.words.specs.Inner.{mixedSeed}
-use Rattle.cells.specs.Cells.{segment, cellCount, Segment, valueAt}
+use Rattle.cells.specs.Cells.{segment, cellCount, Segment, valueAt, workCount}
 use Rattle.cells.specs.Memory.{cleared}
 use Rattle.items.specs.Items.{itemsOf, valuesOf}
 use Rattle.maps.specs.declared.Map.{Map}
-use Rattle.maps.specs.Jam.{Touches, touch, Largest, sizeOf}
-use Rattle.maps.specs.Built.{workCount, Room, Filled, Built, MapBuilt}
-use Rattle.maps.specs.Inner.Peel.{touchb, live, still}
-use Rattle.maps.specs.Inner.Work.{Peeled, AllSeen, Beyond, xorOf, turnItem, turnCell}
-use Rattle.maps.specs.Inner.Fill.{valueOf, Valued, Clean}
+use Rattle.jams.specs.Jam.{Touches, touch, Largest, sizeOf}
+use Rattle.maps.specs.Built.{Room, Filled, Built, MapBuilt}
+use Rattle.jams.specs.Inner.Peel.{touchb, live, still}
+use Rattle.jams.specs.Inner.Work.{Peeled, AllSeen, Beyond, xorOf, turnItem, turnCell}
+use Rattle.jams.specs.Inner.Fill.{valueOf, Valued, Clean}
 use Rattle.maps.specs.Inner.Ready.{Ready, Queued, FilledAll}
-use Rattle.maps.proofs.Sets.{size-one, One}
-use Rattle.maps.proofs.Jams.{and-right, touched, rest-largest, all-peeled}
+use Rattle.jams.proofs.Sets.{size-one, One}
+use Rattle.jams.proofs.Jams.{touched, rest-largest, all-peeled}
 use Rattle.maps.proofs.Puts.{spread, touch-below}
-use Rattle.maps.proofs.Peeling.{seen-stuck}
-use Rattle.maps.proofs.Clearing.{drop-cleared, drop-same, cleared-same}
+use Rattle.jams.proofs.Peeling.{seen-stuck}
+use Rattle.jams.proofs.Clearing.{drop-cleared, drop-same, cleared-same}
 
 pub stuck-largest : {e : ℕ → ℕ → ℕ} {t cap n : ℕ} {w : List ℕ} → ((i c : ℕ) → Touches e i c → c < cap) → Peeled e t cap w n n
     → AllSeen cap w → (n ≡ t → ⊥) → Largest e t (live (turnItem cap t w) n)
@@ -34,7 +35,7 @@ stuck-largest {e} {t} {cap} {n} {w} below P S h =
     let st = turnItem cap t w in
     let i = xorOf (still e st n c) t in
     let o : One (still e st n c) t i = size-one (still e st n c) t z in
-    let l : c < cap = below i c (touched e i c (and-right (live st n i) (touchb e i c) (o .passes))) in
+    let l : c < cap = below i c (touched e i c (both (live st n i) (touchb e i c) (o .passes) .1)) in
     seen-stuck P S c l (P .holds .count c l ∙ z))
 
 module _ (seed : ℕ) (items values : List ℕ) where

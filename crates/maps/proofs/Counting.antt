@@ -9,11 +9,11 @@ use native.Mathlib.Numerals.{add-one}
 use native.Mathlib.Omega.{arith}
 use lib.ListN.{getD}
 use Rattle.maps.specs.declared.Map.{Map}
-use Rattle.maps.specs.Jam.{sizeOf}
-use Rattle.maps.specs.Inner.Peel.{touchb}
-use Rattle.maps.specs.Inner.Work.{Put, Blank, moreIf, xorIf, xorOf}
+use Rattle.jams.specs.Jam.{sizeOf}
+use Rattle.jams.specs.Inner.Peel.{touchb}
+use Rattle.jams.specs.Inner.Work.{Put, Blank, moreIf, xorIf, xorOf}
 use Rattle.maps.specs.Inner.Ready.{graph, Counted}
-use Rattle.maps.proofs.Sets.{size-le}
+use Rattle.jams.proofs.Sets.{size-le}
 
 pub counted-none : (map : Map) (keys w : List ℕ) → Blank (6 * map .m) w → Counted map keys 0 w w
 unfolding sizeOf xorOf

@@ -15,13 +15,14 @@ use Prim.Native.Nat.{ℕ, _≤_, _<_}
 use native.Mathlib.Nat.{eq-zero-or-pos}
 use native.Mathlib.Omega.{arith}
 use lib.ListN.{length}
-use Rattle.maps.specs.Jam.{Touches, touch, Jam, NoJam, Largest, Jammed, Jamless, LargestJam}
+use Rattle.basics.proofs.Bools.{both, and-both}
+use Rattle.jams.specs.Jam.{Touches, touch, Jam, NoJam, Largest, Jammed, Jamless, LargestJam}
 use Rattle.maps.specs.Built.{Filled, Built}
 use Rattle.maps.specs.Determined.{Alike, SameOutcome}
-use Rattle.maps.specs.Inner.Peel.{touchb}
-use Rattle.maps.specs.Inner.Work.{xorOf}
-use Rattle.maps.proofs.Sets.{size-ext, size-one, One}
-use Rattle.maps.proofs.Jams.{and-left, and-right, and-both, touched, touches, closed-jam}
+use Rattle.jams.specs.Inner.Peel.{touchb}
+use Rattle.jams.specs.Inner.Work.{xorOf}
+use Rattle.jams.proofs.Sets.{size-ext, size-one, One}
+use Rattle.jams.proofs.Jams.{touched, touches, closed-jam}
 
 -- no cell is touched just once: by one item of the set and by no other
 abbrev pub NeverOnce : (ℕ → ℕ → ℕ) → ℕ → (ℕ → Bool) → Type 0
@@ -39,7 +40,7 @@ never-once-jam {e} {t} {s} some N =
     let p : ℕ → Bool = λ k. s k && touchb e k c in
     let o : One p t (xorOf p t) = size-one p t z in
     let i = xorOf p t in
-    N i c (o .below) (and-left (s i) (touchb e i c) (o .passes)) (touched e i c (and-right (s i) (touchb e i c) (o .passes)))
+    N i c (o .below) (both (s i) (touchb e i c) (o .passes) .0) (touched e i c (both (s i) (touchb e i c) (o .passes) .1))
     (λ j l h w. o .only j l (and-both h (touches e j c w))))
     some
 

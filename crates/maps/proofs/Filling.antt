@@ -17,12 +17,12 @@ use lib.Bits.{bitXor}
 use Rattle.words.proofs.Xor.{xor-sort}
 use Rattle.cells.specs.Cells.{valueAt}
 use Rattle.maps.specs.declared.Map.{Map}
-use Rattle.maps.specs.Jam.{Touches}
-use Rattle.maps.specs.Inner.Peel.{live}
-use Rattle.maps.specs.Inner.Work.{Blank, Beyond, turnItem, turnCell}
-use Rattle.maps.specs.Inner.Fill.{valueOf, Valued, Clean, fix}
+use Rattle.jams.specs.Jam.{Touches}
+use Rattle.jams.specs.Inner.Peel.{live}
+use Rattle.jams.specs.Inner.Work.{Blank, Beyond, turnItem, turnCell}
+use Rattle.jams.specs.Inner.Fill.{valueOf, Valued, Clean, fix}
 use Rattle.maps.specs.Inner.Ready.{hashOf, graph, wanted, Spread, AtTurn, fixed, FilledAll}
-use Rattle.maps.proofs.Jams.{live-le, live-not, live-out, none-left}
+use Rattle.jams.proofs.Jams.{live-le, live-not, live-out, none-left}
 use Rattle.maps.proofs.Puts.{spread, touch-below}
 
 three : {a a′ b b′ c c′ : ℕ} → a ≡ a′ → b ≡ b′ → c ≡ c′ → bitXor (bitXor a b) c ≡ bitXor (bitXor a′ b′) c′

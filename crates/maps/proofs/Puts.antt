@@ -19,14 +19,14 @@ use lib.Dec.{eqb}
 use lib.ListN.{length, getD, set, length-set}
 use lib.Seq.{getD-set-same, getD-set-other}
 use lib.Bits.{bitXor}
+use Rattle.basics.proofs.Bools.{true-or-false}
 use Rattle.words.proofs.Xor.{xor-cancel}
 use Rattle.cells.specs.Cells.{cellOf, Segment}
 use Rattle.maps.specs.declared.Touched.{Touched}
-use Rattle.maps.specs.Jam.{Touches}
-use Rattle.maps.specs.Inner.Peel.{touchb}
-use Rattle.maps.specs.Inner.Work.{PutAt, Put, moreIf, xorIf}
+use Rattle.jams.specs.Jam.{Touches}
+use Rattle.jams.specs.Inner.Peel.{touchb}
+use Rattle.jams.specs.Inner.Work.{PutAt, Put, moreIf, xorIf}
 use Rattle.maps.specs.Inner.Ready.{cellsOf, Spread, CellsAt}
-use Rattle.maps.proofs.Sets.{true-or-false}
 
 cell-rises : (m h j k : ℕ) → 0 < m → j < k → cellOf m j h < cellOf m k h
 unfolding cellOf

@@ -12,15 +12,15 @@ use Prim.Native.Nat.{ℕ, _+_, _*_, _≤_, _<_}
 use native.Mathlib.Nat.{eq-or-lt-of-le}
 use native.Mathlib.Omega.{arith}
 use lib.ListN.{length}
+use Rattle.basics.proofs.Bools.{not-both, true-or-false}
 use Rattle.maps.specs.declared.Map.{Map}
 use Rattle.maps.specs.declared.Touched.{Touched}
-use Rattle.maps.specs.Jam.{Touches}
-use Rattle.maps.specs.Inner.Peel.{touchb}
-use Rattle.maps.specs.Inner.Work.{Blank, Peeled, Seen, AllSeen, Tryable, Tried}
+use Rattle.jams.specs.Jam.{Touches}
+use Rattle.jams.specs.Inner.Peel.{touchb}
+use Rattle.jams.specs.Inner.Work.{Blank, Peeled, Seen, AllSeen, Tryable, Tried}
 use Rattle.maps.specs.Inner.Ready.{graph, CellsAt, Ready, Counted, AtTurn}
-use Rattle.maps.proofs.Sets.{true-or-false, clash}
-use Rattle.maps.proofs.Jams.{touched, touches}
-use Rattle.maps.proofs.Peeling.{can-try, start-peeled}
+use Rattle.jams.proofs.Jams.{touched, touches}
+use Rattle.jams.proofs.Peeling.{can-try, start-peeled}
 
 -- all items are counted, and none has a turn
 pub first-turn : {map : Map} {keys left right a w : List ℕ} → Ready map keys left right → 6 * map .m + 2 * map .t ≤ length w
@@ -60,7 +60,7 @@ module _ {cap t : ℕ} where
   seen-three {e} {i} {at} {a} {b} {d} {f} C A B D s k m =
       ⊎-elim
       (λ (h : touchb e i k ≡ true). tried (touched e i k h))
-      (λ (h : touchb e i k ≡ false). D .kept k m (B .kept k m (A .kept k m (s k m (λ g. clash (touches e i k g) h)))))
+      (λ (h : touchb e i k ≡ false). D .kept k m (B .kept k m (A .kept k m (s k m (λ g. not-both (touches e i k g) h)))))
       (true-or-false (touchb e i k))
     where
       tried : Touches e i k → Seen cap f k

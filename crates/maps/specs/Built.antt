@@ -1,17 +1,13 @@
 -- Document 01, "Static maps" and "Refusal numbers": what a build of one map answers and leaves in lent memory.
 use mathlib.Core.Path.{_≡_}
 use mathlib.Core.List.{List}
-use Prim.Native.Nat.{ℕ, _+_, _*_, _≤_, _<_}
+use Prim.Native.Nat.{ℕ, _≤_, _<_}
 use lib.ListN.{length, getD, drop}
-use Rattle.cells.specs.Cells.{cellCount, mapValue}
+use Rattle.cells.specs.Cells.{cellCount, workCount, mapValue}
 use Rattle.cells.specs.Memory.{cleared}
 use Rattle.items.specs.Items.{itemsOf, valuesOf}
 use Rattle.items.specs.declared.Items.{Items}
-use Rattle.maps.specs.Jam.{Touches, touch, Jamless, LargestJam}
-
--- the work that a map of t items takes
-abbrev pub workCount : ℕ → ℕ
-workCount t = 2 * cellCount t + 2 * t
+use Rattle.jams.specs.Jam.{Touches, touch, Jamless, LargestJam}
 
 -- the lent memory has the named lengths
 pub record Room (items cells work : List ℕ) : Type 0 where

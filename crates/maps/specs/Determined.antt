@@ -4,7 +4,7 @@ use mathlib.Core.List.{List}
 use Prim.Native.Nat.{ℕ, _<_}
 use lib.ListN.{length, getD, drop}
 use Rattle.cells.specs.Cells.{cellCount, mapValue}
-use Rattle.maps.specs.Jam.{Touches, touch}
+use Rattle.jams.specs.Jam.{Touches, touch}
 
 -- two fillings: they answer every item alike, and agree on every cell that no item touches and on those from C(t) on
 pub record Alike (seed : ℕ) (items a b : List ℕ) : Type 0 where

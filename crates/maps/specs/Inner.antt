@@ -1,5 +1,2 @@
 -- The state of a build while it goes on: `build`'s own statement leads to none of it.
-pub mod Peel
-pub mod Work
-pub mod Fill
 pub mod Ready

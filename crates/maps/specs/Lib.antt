@@ -1,5 +1,4 @@
 -- The definitions that the contracts of `maps` cite. What stands in Inner only the contracts of inner functions need.
-pub mod Jam
 pub mod Built
 pub mod Determined
 pub mod Inner

@@ -2,7 +2,7 @@
 ghost use mathlib.Core.Path.{_≡_};
 ghost use Prim.Native.Nat.{_*_, _≤_, _<_};
 ghost use lib.ListN.{length};
-ghost use Rattle.maps.specs.Inner.Work.{Blank};
+ghost use Rattle.jams.specs.Inner.Work.{Blank};
 ghost use Rattle.maps.specs.Inner.Ready.{AtTurn, fixed, FilledAll};
 use crate::Map;
 use crate::count;

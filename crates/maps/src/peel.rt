@@ -3,7 +3,7 @@
 // turn and 1 more than the cell that it was found at, so that none gets two, and after that the queue of those that have their turns.
 ghost use Prim.Native.Nat.{_+_, _*_, _<_, _≤_};
 ghost use lib.ListN.{length};
-ghost use Rattle.maps.specs.Inner.Work.{AllSeen, Tryable, Tried};
+ghost use Rattle.jams.specs.Inner.Work.{AllSeen, Tryable, Tried};
 ghost use Rattle.maps.specs.Inner.Ready.{Ready, AtTurn, Queued};
 use crate::Map;
 use crate::count;

@@ -16,20 +16,21 @@ use Rattle.refusals.specs.declared.Refusal.{Refusal}
 use Rattle.refusals.specs.declared.Refusal.the-variants.{TooManyKeys, BucketSize, Falls, Short, Jammed, Spoiled, Field, Text}
 use Rattle.cells.specs.Cells.{cellCount, mapValue}
 use Rattle.tables.specs.Tables.{mostKeys, keyAt, Table, smaller, sharedByAll}
+use Rattle.tables.specs.Lengths.{handleCount}
 use Rattle.splits.specs.Splits.{handleItem, handleSplit, leftEntry, rightEntry, leftStore, rightStore}
-use Rattle.splits.proofs.Bools.{both}
+use Rattle.basics.proofs.Bools.{both}
 use Rattle.splits.proofs.Rows.{row-le}
 use Rattle.splits.proofs.Parents.{left-root}
 use Rattle.splits.proofs.Handles.{handles-by-items}
 use Rattle.splits.proofs.Stores.{entered-at}
-use Rattle.neighbour.specs.Walk.{Answer, before, spoiled, walk, pathWalk, storeWalk, Stored}
-use Rattle.neighbour.specs.Ask.{NeighbourSaid, place, refused, saidByNeighbour, standsAt, told, handleCount, walkSays, neighbourSays}
-use Rattle.neighbour.specs.declared.NeighbourAnswer.{NeighbourAnswer}
-use Rattle.neighbour.specs.declared.NeighbourAnswer.the-variants.{At, Refused}
-use Rattle.neighbour.proofs.Deciding.{smaller-low, smaller-high}
-use Rattle.neighbour.proofs.Descending.{onward-split}
-use Rattle.neighbour.proofs.Answering.{by-size, walk-none, walk-one, walk-probes, walk-six, path-answer, stored-walk}
-use Rattle.neighbour.proofs.Roots.{root-shared}
+use Rattle.walks.specs.Walk.{Answer, before, spoiled, walk, pathWalk, storeWalk, Stored}
+use Rattle.neighbour.specs.Ask.{NeighbourSaid, place, refused, saidByNeighbour, standsAt, told, walkSays, neighbourSays}
+use Rattle.neighbour.specs.declared.ask.NeighbourAnswer.{NeighbourAnswer}
+use Rattle.neighbour.specs.declared.ask.NeighbourAnswer.the-variants.{At, Refused}
+use Rattle.walks.proofs.Deciding.{smaller-low, smaller-high}
+use Rattle.walks.proofs.Descending.{onward-split}
+use Rattle.walks.proofs.Answering.{by-size, walk-none, walk-one, walk-probes, walk-six, path-answer, stored-walk}
+use Rattle.walks.proofs.Roots.{root-shared}
 
 -- the refusal of a number that names something
 abbrev refusalOf : ℕ → ℕ → Refusal
@@ -97,19 +98,19 @@ path-probes T t x =
     (λ two. rw (root-shared T t two) (rw (left-root T) at (walk-probes T x find ls rs)))
 
 -- over what an accepted build leaves
-module _ (T : List ℕ) (t : Table T) (handles lefts rights : List ℕ) (seed x : ℕ) (S : Stored T (mapValue handles (handleCount T) seed) lefts rights) where
+module _ (T : List ℕ) (t : Table T) (handles lefts rights : List ℕ) (seed x : ℕ) (S : Stored T (mapValue handles (handleCount (length T)) seed) lefts rights) where
   pub stored-says : walkSays T handles lefts rights seed x ≡ place (smaller T x) (length (pathWalk T x .probed)) (standsAt T x (smaller T x))
   unfolding walkSays told
-  stored-says = rw (stored-walk T t x (mapValue handles (handleCount T) seed) lefts rights S, path-answer T t x)
+  stored-says = rw (stored-walk T t x (mapValue handles (handleCount (length T)) seed) lefts rights S, path-answer T t x)
 
 -- sizes that fit pass the tests for refusals 1 and 4
-pub sizes-pass : (T handles lefts rights : List ℕ) (seed x : ℕ) → length T ≤ mostKeys → cellCount (handleCount T) ≤ length handles → length T ≤ length lefts
+pub sizes-pass : (T handles lefts rights : List ℕ) (seed x : ℕ) → length T ≤ mostKeys → cellCount (handleCount (length T)) ≤ length handles → length T ≤ length lefts
     → length T ≤ length rights → neighbourSays T handles lefts rights seed x ≡ walkSays T handles lefts rights seed x
 unfolding neighbourSays
 sizes-pass T handles lefts rights seed x n h l r =
     rw (
       le-ltb mostKeys (length T) n,
-      le-ltb (length handles) (cellCount (handleCount T)) h,
+      le-ltb (length handles) (cellCount (handleCount (length T))) h,
       le-ltb (length lefts) (length T) l,
       le-ltb (length rights) (length T) r,
     )
@@ -138,7 +139,7 @@ module _ (c p : ℕ) (s : Bool) where
       let n = length keys in
       walk-says-six keys handles lefts rights seed x
       (past (ltb (length rights) n) 4 4 _
-      (past (ltb (length lefts) n) 4 3 _ (past (ltb (length handles) (cellCount (handleCount keys))) 4 2 _ (past (ltb mostKeys n) 1 0 _ e))))
+      (past (ltb (length lefts) n) 4 3 _ (past (ltb (length handles) (cellCount (handleCount (length keys)))) 4 2 _ (past (ltb mostKeys n) 1 0 _ e))))
 
 -- the stores that the bounds are built into, with a map 3 that gives each of its items the split that it stands for, are what a build leaves
 pub stored-by : (T : List ℕ) (lookUp : ℕ → ℕ) (oldLeft oldRight : List ℕ)

@@ -1,17 +1,8 @@
--- The laws of the definitions in specs/.
---   Paths:     the splits on a key's path (S6, W1)             Descending: the probes of a walk, and where they end (W1 to W3)
---   Deciding:  the last comparison finds the place (W4)        Answering:  the theorems on the walk (W3 to W5)
---   Roots:     the root's string is what all keys share        Steps:      one probe after another, as the code makes them
---   Telling:   what an ask says, case by case of the walk      Asking:     the theorems on what an ask says
---   Testing:   a test by which a list is seen to be a table
-pub mod Paths
-pub mod Descending
-pub mod Deciding
-pub mod Answering
-pub mod Roots
+-- The laws of the definitions in specs/, above those of `walks`.
+--   Steps:   one probe after another, as the code makes them     Telling: what an ask says, case by case of the walk
+--   Asking:  the theorems on what an ask says                    Judging: the refusals of a build      Storing: what a build leaves
 pub mod Steps
 pub mod Telling
 pub mod Asking
-pub mod Testing
 pub mod Judging
 pub mod Storing

@@ -14,12 +14,12 @@ use Rattle.words.proofs.Fatness.{fattest-one}
 use Rattle.words.proofs.Sharing.{shared-iff}
 use Rattle.tables.specs.Tables.{keyAt}
 use Rattle.splits.specs.Splits.{len}
-use Rattle.splits.proofs.Bools.{both, by-test}
-use Rattle.neighbour.specs.Walk.{onPath, probeAt, accepted, descend, before, spoiled, decide}
+use Rattle.basics.proofs.Bools.{both, by-test}
+use Rattle.walks.specs.Walk.{onPath, probeAt, accepted, descend, before, spoiled, decide}
 use Rattle.neighbour.specs.Inner.{Stepped}
 use Rattle.neighbour.specs.declared.walk.State.{State}
-use Rattle.neighbour.proofs.Paths.{probe-fattest}
-use Rattle.neighbour.proofs.Descending.{Taken, accepted-means, turn, descend-goes, descend-stops}
+use Rattle.walks.proofs.Paths.{probe-fattest}
+use Rattle.walks.proofs.Descending.{Taken, accepted-means, turn, descend-goes, descend-stops}
 
 -- keys have the same first l bits exactly if they share as many
 pub share-test : (x k l : ℕ) → x < 2 ^ 64 → k < 2 ^ 64 → l ≤ 64 → leb l (sharedBits x k) ≡ eqb (firstBits l x) (firstBits l k)

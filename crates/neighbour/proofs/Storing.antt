@@ -6,7 +6,7 @@ use native.Mathlib.Omega.{arith}
 use lib.ListN.{length, drop, replicate}
 use lib.Seq.{drop-at}
 use Rattle.refusals.specs.Numbers.{taken, refused}
-use Rattle.cells.specs.Cells.{cellCount}
+use Rattle.cells.specs.Cells.{cellCount, workCount}
 use Rattle.cells.specs.Memory.{cleared}
 use Rattle.tables.specs.Tables.{Table, listed}
 use Rattle.tables.specs.Lengths.{handleCells, neighbourWork}
@@ -16,7 +16,7 @@ use Rattle.tables.proofs.Delimiting.{delimiters-one}
 use Rattle.splits.specs.Splits.{leftEntry, rightEntry, leftStore, rightStore}
 use Rattle.items.specs.Items.{handleItems, handleSplits}
 use Rattle.items.proofs.Handling.{length-handles}
-use Rattle.maps.specs.Built.{Built, Room, workCount}
+use Rattle.maps.specs.Built.{Built, Room}
 use Rattle.neighbour.specs.Build.{StoresBuilt, jam₃, filled}
 use Rattle.neighbour.specs.Inner.{Storable}
 

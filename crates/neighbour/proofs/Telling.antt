@@ -8,17 +8,18 @@ use lib.ListN.{length, getD}
 use Rattle.words.specs.Keys.{prefixItem}
 use Rattle.cells.specs.Cells.{mapValue}
 use Rattle.tables.specs.Tables.{keyAt}
+use Rattle.tables.specs.Lengths.{handleCount}
 use Rattle.splits.specs.Splits.{len}
-use Rattle.neighbour.specs.Walk.{onPath, descend, before, spoiled, Walk, decide, walk, storeWalk}
-use Rattle.neighbour.specs.Ask.{NeighbourSaid, refused, told, handleCount, walkSays}
-use Rattle.neighbour.proofs.Answering.{walk-none, walk-one, walk-off, walk-on, walk-bad, halt}
+use Rattle.walks.specs.Walk.{onPath, descend, before, spoiled, Walk, decide, walk, storeWalk}
+use Rattle.neighbour.specs.Ask.{NeighbourSaid, refused, told, walkSays}
+use Rattle.walks.proofs.Answering.{walk-none, walk-one, walk-off, walk-on, walk-bad, halt}
 
 module _ (T handles lefts rights : List ℕ) (seed x : ℕ) where
   abbrev says : NeighbourSaid
   says = walkSays T handles lefts rights seed x
 
   abbrev look : ℕ → ℕ
-  look f = mapValue handles (handleCount T) seed (prefixItem x f)
+  look f = mapValue handles (handleCount (length T)) seed (prefixItem x f)
 
   abbrev ls : ℕ → ℕ
   ls m = getD lefts m 0

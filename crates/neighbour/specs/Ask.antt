@@ -1,15 +1,16 @@
 -- Document 01, "The walk" and "Refusal numbers and their order": what a neighbour ask says, in the document's numbers.
 use mathlib.Core.Bool.{Bool, cond, _&&_}
 use mathlib.Core.List.{List}
-use Prim.Native.Nat.{ℕ, _-_}
+use Prim.Native.Nat.{ℕ}
 use lib.Dec.{eqb, ltb}
 use lib.ListN.{length}
 use Rattle.refusals.specs.Numbers.{number, names}
 use Rattle.cells.specs.Cells.{cellCount, mapValue}
 use Rattle.tables.specs.Tables.{mostKeys, keyAt}
-use Rattle.neighbour.specs.Walk.{Answer, before, spoiled, storeWalk}
-use Rattle.neighbour.specs.declared.NeighbourAnswer.{NeighbourAnswer}
-use Rattle.neighbour.specs.declared.NeighbourAnswer.the-variants.{At, Refused}
+use Rattle.tables.specs.Lengths.{handleCount}
+use Rattle.walks.specs.Walk.{Answer, before, spoiled, storeWalk}
+use Rattle.neighbour.specs.declared.ask.NeighbourAnswer.{NeighbourAnswer}
+use Rattle.neighbour.specs.declared.ask.NeighbourAnswer.the-variants.{At, Refused}
 
 -- what an ask says: the number before, the probe count and whether x stands in the table; or a refusal's number and what it names
 pub data NeighbourSaid : Type 0 where
@@ -30,20 +31,16 @@ unfoldable pub told : List ℕ → ℕ → ℕ → Answer → NeighbourSaid
 told T x probes (before c) = place c probes (standsAt T x c)
 told T x probes spoiled = refused 6 0
 
--- map 3 has n - 2 items, none if n < 2
-abbrev pub handleCount : List ℕ → ℕ
-handleCount T = length T - 2
-
 -- what the walk says over a table, the cells of map 3 and the two stores
 unfoldable pub walkSays : (T handles lefts rights : List ℕ) → ℕ → ℕ → NeighbourSaid
 walkSays T handles lefts rights seed x =
-    let w = storeWalk T x (mapValue handles (handleCount T) seed) lefts rights in told T x (length (w .probed)) (w .answer)
+    let w = storeWalk T x (mapValue handles (handleCount (length T)) seed) lefts rights in told T x (length (w .probed)) (w .answer)
 
 -- what an ask says, whatever it is given: refusal 1, refusal 4 with the first store that is too short, and then the walk, which may give 6
 unfoldable pub neighbourSays : (keys handles lefts rights : List ℕ) → ℕ → ℕ → NeighbourSaid
 neighbourSays keys handles lefts rights seed x =
     cond (ltb mostKeys (length keys)) (refused 1 0)
-    (cond (ltb (length handles) (cellCount (handleCount keys))) (refused 4 2)
+    (cond (ltb (length handles) (cellCount (handleCount (length keys)))) (refused 4 2)
     (cond (ltb (length lefts) (length keys)) (refused 4 3)
     (cond (ltb (length rights) (length keys)) (refused 4 4)
     (walkSays keys handles lefts rights seed x))))

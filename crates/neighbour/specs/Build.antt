@@ -11,7 +11,7 @@ use Rattle.tables.specs.Tables.{mostKeys, firstFall}
 use Rattle.tables.specs.Lengths.{handleCells, neighbourWork}
 use Rattle.splits.specs.Splits.{leftStore, rightStore}
 use Rattle.items.specs.Items.{handleItems, handleSplits}
-use Rattle.maps.specs.Jam.{Jammed, Jamless}
+use Rattle.jams.specs.Jam.{Jammed, Jamless}
 use Rattle.maps.specs.Built.{Filled}
 
 -- the first of refusals 1, 3 and 4 that applies; `taken` if none does

@@ -8,22 +8,21 @@ use Rattle.words.specs.Keys.{prefixItem}
 use Rattle.cells.specs.Cells.{cellCount, mapValue}
 use Rattle.tables.specs.Tables.{Table}
 use Rattle.tables.specs.Delimiters.{delimiters, Bucketed}
-use Rattle.tables.specs.Lengths.{handleCells, neighbourWork}
+use Rattle.tables.specs.Lengths.{handleCount, handleCells, neighbourWork}
 use Rattle.splits.specs.Splits.{len}
 use Rattle.splits.specs.Inner.{SplitOf, Counted}
-use Rattle.neighbour.specs.Walk.{probeAt, accepted, descend}
-use Rattle.neighbour.specs.Ask.{handleCount}
+use Rattle.walks.specs.Walk.{probeAt, accepted, descend}
 use Rattle.neighbour.specs.declared.walk.State.{State}
 use Rattle.neighbour.specs.declared.walk.Descended.{Descended}
 
 -- what map 3 says of the first f bits of x
 abbrev pub handleValue : ℕ → (keys handles : List ℕ) → ℕ → ℕ → ℕ → ℕ
-handleValue b keys handles seed x f = mapValue handles (handleCount (delimiters b keys)) seed (prefixItem x f)
+handleValue b keys handles seed x f = mapValue handles (handleCount (length (delimiters b keys))) seed (prefixItem x f)
 
 -- a table and stores of fitting sizes
 pub record Sizes (b : ℕ) (keys handles lefts rights : List ℕ) : Type 0 where
   pub bucketed : Bucketed b keys
-  pub some-handles : cellCount (handleCount (delimiters b keys)) ≤ length handles
+  pub some-handles : cellCount (handleCount (length (delimiters b keys))) ≤ length handles
   pub some-lefts : length (delimiters b keys) ≤ length lefts
   pub some-rights : length (delimiters b keys) ≤ length rights
 

@@ -1,5 +1,4 @@
 -- The definitions that the contracts of `neighbour` cite, in the order of document 01. Inner: what only inner functions' contracts need.
 pub mod Build
-pub mod Walk
 pub mod Ask
 pub mod Inner

@@ -2,51 +2,11 @@
 //
 // Every function is proved and the crate assumes nothing. The entry `neighbour_ask` has no `requires`: whatever table and stores it
 // is lent, it answers or refuses as specs/Ask.antt says.
-ghost use mathlib.Core.Path.{_≡_};
-ghost use Rattle.neighbour.specs.Ask.{saidByNeighbour, neighbourSays};
-use refusals::Refusal;
-
+pub mod ask;
 pub mod build;
 pub mod walk;
 
+pub use ask::NeighbourAnswer;
+pub use ask::Place;
+pub use ask::neighbour_ask;
 pub use build::neighbour_build;
-
-// Where x stands: the keys before it, the probes made, and whether it is in the table.
-pub struct Place {
-    pub before: usize,
-    pub probes: usize,
-    pub stands: bool,
-}
-
-pub enum NeighbourAnswer {
-    At(Place),
-    Refused(Refusal),
-}
-
-// How many keys stand before x. Refusal 1 for more than 32,768 keys; 4 for the first store that is too short, of 2 handle cells, 3 left
-// and 4 right; 6 for spoiled bounds.
-pub fn neighbour_ask(
-    keys: &[u64],
-    seed3: u64,
-    handles: &[u16],
-    left: &[u16],
-    right: &[u16],
-    x: u64,
-) -> NeighbourAnswer
-    ensures { λ r. ⌜ saidByNeighbour r ≡ neighbourSays (now (keys .entry)) (now (handles .entry)) (now (left .entry)) (now (right .entry)) seed3 x ⌝ }
-{
-    let n = keys.len();
-    if n > 32768 {
-        return NeighbourAnswer::Refused(Refusal::TooManyKeys);
-    }
-    if handles.len() < cells::cell_count(walk::handle_count(n)) {
-        return NeighbourAnswer::Refused(Refusal::Short(2));
-    }
-    if left.len() < n {
-        return NeighbourAnswer::Refused(Refusal::Short(3));
-    }
-    if right.len() < n {
-        return NeighbourAnswer::Refused(Refusal::Short(4));
-    }
-    walk::walk_from(keys, 1, seed3, handles, left, right, x)
-}

@@ -5,16 +5,17 @@ ghost use lib.ListN.{length};
 ghost use Rattle.tables.specs.Delimiters.{delimiters};
 ghost use Rattle.splits.specs.Splits.{len};
 ghost use Rattle.splits.specs.Inner.{SplitOf, Counted};
-ghost use Rattle.neighbour.specs.Walk.{onPath, accepted, before, decide};
+ghost use Rattle.walks.specs.Walk.{onPath, accepted, before, decide};
 ghost use Rattle.neighbour.specs.Ask.{saidByNeighbour, told, walkSays};
 ghost use Rattle.neighbour.specs.Inner.{handleValue, Sizes, Lent, Node, Stepped, Reached};
-use crate::NeighbourAnswer;
-use crate::Place;
+use crate::ask::NeighbourAnswer;
+use crate::ask::Place;
 use refusals::Refusal;
 use splits::split::entry_at;
 use splits::split::len_at;
 use tables::delimiter::delimiter_at;
 use tables::delimiter::delimiter_count;
+use tables::lengths::handle_count;
 use words::fattest::fattest;
 use words::prefix::prefix_item;
 use words::prefix::shared_bits;
@@ -31,16 +32,6 @@ struct Descended {
     node: usize,
     lower: u32,
     probes: usize,
-}
-
-// How many items map 3 of n keys has.
-pub fn handle_count(n: usize) -> usize
-    ensures { λ r. ⌜ (r ≡ n - 2) × (r ≤ n) ⌝ }
-{
-    if n < 2 {
-        return 0;
-    }
-    n - 2
 }
 
 // Whether x has the string of split m, the first l bits of its key.

@@ -4,13 +4,14 @@ use mathlib.Core.Bool.{Bool, true, false, cond}
 use mathlib.Core.List.{List}
 use Prim.Native.Nat.{ℕ}
 use native.Mathlib.Omega.{arith}
+use Rattle.basics.proofs.Bools.{differ}
 use Rattle.refusals.specs.Numbers.{number, names}
 use Rattle.refusals.specs.declared.Refusal.{Refusal}
 use Rattle.tables.specs.Tables.{smaller}
 use Rattle.call.specs.Ask.{CallSaid, row, absent, refused, callSays}
 use Rattle.neighbour.specs.Ask.{place, saidByNeighbour, standsAt, neighbourSays}
-use Rattle.neighbour.specs.declared.Place.{Place}
-use Rattle.neighbour.specs.declared.NeighbourAnswer.the-variants.{At, Refused}
+use Rattle.neighbour.specs.declared.ask.Place.{Place}
+use Rattle.neighbour.specs.declared.ask.NeighbourAnswer.the-variants.{At, Refused}
 use Rattle.rowtext.specs.Output.{askText}
 use Rattle.rowtext.specs.declared.Called.{Called}
 use Rattle.rowtext.specs.declared.Called.the-variants.{Row, Absent}
@@ -25,8 +26,8 @@ saidOf Absent = absent
 -- a row is said only where x stands, and then it is the number of smaller keys; absent is said only elsewhere
 called : (s : Bool) (c : ℕ) (call : Called) → saidOf call ≡ cond s (row c) absent → call ≡ cond s (Row c) Absent
 called true c (Row r) e = cc
-called true c Absent e = absurd (let z : _≡_ {A = ℕ} 0 1 = cc in omega arith)
-called false c (Row r) e = absurd (let z : _≡_ {A = ℕ} 0 1 = cc in omega arith)
+called true c Absent e = differ (cc)
+called false c (Row r) e = differ (cc)
 called false c Absent e = refl
 
 call-refuses-none : (s : Bool) (c n k : ℕ) → refused n k ≡ cond s (row c) absent → ⊥

@@ -7,6 +7,7 @@ use Prim.Native.Nat.{ℕ, _-_, _≤_, _<_, _^_}
 use native.Mathlib.Omega.{arith}
 use lib.ListN.{length}
 use Rattle.refusals.specs.Numbers.{BuildSaid, taken, refused}
+use Rattle.refusals.proofs.Naming.{not-taken}
 use Rattle.cells.specs.Cells.{cellCount}
 use Rattle.tables.specs.Tables.{keyAt, Table, smaller, firstFall}
 use Rattle.tables.specs.Lengths.{callCells, callWork, handleCells, neighbourWork}
@@ -14,7 +15,7 @@ use Rattle.tables.specs.Delimiters.{buckets}
 use Rattle.tables.proofs.Delimiting.{buckets-le}
 use Rattle.tables.proofs.Rising.{table-no-fall}
 use Rattle.items.specs.Items.{Sorted, prefixItems, handleItems}
-use Rattle.maps.specs.Jam.{Jammed, Jamless}
+use Rattle.jams.specs.Jam.{Jammed, Jamless}
 use Rattle.call.specs.Build.{callJudged, jam₁, jam₂, CallBuilt}
 use Rattle.call.specs.Build as cb
 use Rattle.call.specs.Ask.{row, absent, callSays}
@@ -69,34 +70,31 @@ rowed-lent keys b cells handles left right work R ec eh el er ew =
       workLong = omega arith;
     }
 
-refusal-not-taken : {A : Type 0} {said : BuildSaid} (k i : ℕ) → said ≡ refused k i → said ≡ taken → A
-refusal-not-taken k i e f = absurd (let z : _≡_ {A = ℕ} 0 1 = cc in omega arith)
-
 -- why the call build refuses, where nothing else is refused
 pub call-jam : (keys : List ℕ) (b s : ℕ) (cells work : List ℕ) (k i : ℕ) (c w : List ℕ) → CallBuilt keys b s s cells work (refused k i) c w
     → callJudged keys b cells work ≡ taken → SeedJams keys b s
-call-jam keys b s cells work k i c w (cb.refusal k′ i′ j e f g) passed = refusal-not-taken k′ i′ j passed
+call-jam keys b s cells work k i c w (cb.refusal k′ i′ j e f g) passed = not-taken k′ i′ j passed
 call-jam keys b s cells work k i c w (cb.verdict j (jam₁ J e f g)) passed = inl J
 call-jam keys b s cells work k i c w (cb.verdict j (jam₂ N J e f g)) passed = inr (inl J)
-call-jam keys b s cells work k i c w (cb.verdict j (cb.filled N M e F g)) passed = refusal-not-taken k i refl e
+call-jam keys b s cells work k i c w (cb.verdict j (cb.filled N M e F g)) passed = not-taken k i refl e
 
 pub neighbour-jam : (keys : List ℕ) (b s : ℕ) (h l r w : List ℕ) (k i : ℕ) (h′ l′ r′ w′ : List ℕ) → NeighbourBuilt keys s h l r w (refused k i) h′ l′ r′ w′
     → neighbourJudged keys h l r w ≡ taken → SeedJams keys b s
-neighbour-jam keys b s h l r w k i h′ l′ r′ w′ (nb.refusal k′ i′ j e a c d f) passed = refusal-not-taken k′ i′ j passed
+neighbour-jam keys b s h l r w k i h′ l′ r′ w′ (nb.refusal k′ i′ j e a c d f) passed = not-taken k′ i′ j passed
 neighbour-jam keys b s h l r w k i h′ l′ r′ w′ (nb.verdict j (jam₃ J e a c d f)) passed = inr (inr J)
-neighbour-jam keys b s h l r w k i h′ l′ r′ w′ (nb.verdict j (nb.filled N e F a c d)) passed = refusal-not-taken k i refl e
+neighbour-jam keys b s h l r w k i h′ l′ r′ w′ (nb.verdict j (nb.filled N e F a c d)) passed = not-taken k i refl e
 
 -- why both builds take a seed
 pub call-jamless : (keys : List ℕ) (b s : ℕ) (cells work c w : List ℕ) → CallBuilt keys b s s cells work taken c w
     → Jamless s keys × Jamless s (prefixItems b keys)
-call-jamless keys b s cells work c w (cb.refusal k i j e f g) = refusal-not-taken k i e refl
-call-jamless keys b s cells work c w (cb.verdict j (jam₁ J e f g)) = refusal-not-taken 5 1 e refl
-call-jamless keys b s cells work c w (cb.verdict j (jam₂ N J e f g)) = refusal-not-taken 5 2 e refl
+call-jamless keys b s cells work c w (cb.refusal k i j e f g) = not-taken k i e refl
+call-jamless keys b s cells work c w (cb.verdict j (jam₁ J e f g)) = not-taken 5 1 e refl
+call-jamless keys b s cells work c w (cb.verdict j (jam₂ N J e f g)) = not-taken 5 2 e refl
 call-jamless keys b s cells work c w (cb.verdict j (cb.filled N M e F g)) = (N, M)
 
 pub neighbour-jamless : (keys : List ℕ) (s : ℕ) (h l r w h′ l′ r′ w′ : List ℕ) → NeighbourBuilt keys s h l r w taken h′ l′ r′ w′ → Jamless s (handleItems keys)
-neighbour-jamless keys s h l r w h′ l′ r′ w′ (nb.refusal k i j e a c d f) = refusal-not-taken k i e refl
-neighbour-jamless keys s h l r w h′ l′ r′ w′ (nb.verdict j (jam₃ J e a c d f)) = refusal-not-taken 5 3 e refl
+neighbour-jamless keys s h l r w h′ l′ r′ w′ (nb.refusal k i j e a c d f) = not-taken k i e refl
+neighbour-jamless keys s h l r w h′ l′ r′ w′ (nb.verdict j (jam₃ J e a c d f)) = not-taken 5 3 e refl
 neighbour-jamless keys s h l r w h′ l′ r′ w′ (nb.verdict j (nb.filled N e F a c d)) = N
 
 module _ (keys : List ℕ) (t : Table keys) (b seed : ℕ) (cells work cells′ work′ : List ℕ) (B : CallBuilt keys b seed seed cells work taken cells′ work′) where

@@ -7,10 +7,10 @@ use native.Mathlib.Nat.{mul-suc}
 use native.Mathlib.Omega.{arith}
 use lib.ListN.{length, length-append}
 use Rattle.tables.specs.Tables.{Table, smaller}
-use Rattle.neighbour.specs.Walk.{pathWalk}
+use Rattle.walks.specs.Walk.{pathWalk}
 use Rattle.neighbour.specs.Ask.{standsAt}
-use Rattle.neighbour.proofs.Answering.{walk-six}
-use Rattle.neighbour.proofs.Deciding.{smaller-most}
+use Rattle.walks.proofs.Answering.{walk-six}
+use Rattle.walks.proofs.Deciding.{smaller-most}
 use Rattle.digits.specs.Texts.{bytes}
 use Rattle.lines.specs.Lines.{line, texts}
 use Rattle.lines.specs.declared.Kind.the-variants.{Decimal}

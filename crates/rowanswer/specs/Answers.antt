@@ -7,8 +7,8 @@ use Prim.Native.Nat.{ℕ, _≤_, _<_}
 use lib.ListN.{length, drop}
 use Rattle.tables.specs.Tables.{Table, smaller, firstFall}
 use Rattle.items.specs.Items.{prefixItems, handleItems}
-use Rattle.maps.specs.Jam.{Jammed, Jamless}
-use Rattle.neighbour.specs.Walk.{pathWalk}
+use Rattle.jams.specs.Jam.{Jammed, Jamless}
+use Rattle.walks.specs.Walk.{pathWalk}
 use Rattle.neighbour.specs.Ask.{standsAt}
 use Rattle.digits.specs.Texts.{bytes}
 use Rattle.lines.specs.Lines.{line}

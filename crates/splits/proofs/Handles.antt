@@ -15,7 +15,7 @@ use Rattle.words.proofs.Fatness.{fattest-of, fattest-one}
 use Rattle.words.proofs.Items.{item-inj}
 use Rattle.tables.specs.Tables.{keyAt, Table}
 use Rattle.splits.specs.Splits.{len, left, right, root, parentLen, handleLen, handleItem, handleSplit}
-use Rattle.splits.proofs.Bools.{by-test}
+use Rattle.basics.proofs.Bools.{by-test}
 use Rattle.splits.proofs.Rows.{share-down, between, len-lt, len-iff, neighbours, rows-own, left-lt, right-gt, one-split}
 use Rattle.splits.proofs.Parents.{parent-left, parent-right, parent-shorter, root-pos, root-lt}
 

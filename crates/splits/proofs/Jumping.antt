@@ -11,7 +11,7 @@ use lib.ListN.{length}
 use Rattle.tables.specs.Tables.{keyAt, Table}
 use Rattle.splits.specs.Splits.{len, left, right, leftEntry, rightEntry}
 use Rattle.splits.specs.Inner.{goesOn}
-use Rattle.splits.proofs.Bools.{both}
+use Rattle.basics.proofs.Bools.{both}
 use Rattle.splits.proofs.Rows.{share-down, len-lt, len-iff, neighbours, rows-below, rows-above, rows-own, left-lt, right-gt, right-le}
 use Rattle.splits.proofs.Parents.{left-split, right-split}
 

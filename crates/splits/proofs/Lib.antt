@@ -1,8 +1,7 @@
 -- The laws of the definitions in specs/.
---   Bools:   tests taken apart                          Rows:    the rows of a split and what they share (S2, S3)
+--   Rows:    the rows of a split and what they share (S2, S3)
 --   Parents: the root and the parent's length           Handles: map 3's items, pairwise different (J8)
 --   Jumping: the ends of a split's rows (S4)            Stores:  stores written entry by entry
-pub mod Bools
 pub mod Rows
 pub mod Parents
 pub mod Handles

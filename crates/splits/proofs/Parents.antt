@@ -13,7 +13,7 @@ use Rattle.words.specs.Keys.{firstBits}
 use Rattle.words.proofs.Sharing.{shared-le}
 use Rattle.tables.specs.Tables.{keyAt, Table}
 use Rattle.splits.specs.Splits.{len, left, right, smallerOf, rootTo, root, parentLen, leftEntry, rightEntry}
-use Rattle.splits.proofs.Bools.{by-test}
+use Rattle.basics.proofs.Bools.{by-test}
 use Rattle.splits.proofs.Rows.{left-lt, right-gt, right-le, rows-own, left-len, right-len, one-split}
 
 -- of the splits 1 to M, r has the smallest len

@@ -15,7 +15,7 @@ use Rattle.words.specs.Keys.{firstBits, bitAt}
 use Rattle.words.proofs.Sharing.{halve, shared-iff, shared-lt, parting-bits}
 use Rattle.tables.specs.Tables.{keyAt, Table, count, smaller}
 use Rattle.splits.specs.Splits.{len, left, right}
-use Rattle.splits.proofs.Bools.{not-both}
+use Rattle.basics.proofs.Bools.{not-both}
 
 -- a key's first l + 1 bits are its first l and bit l
 pub next-bit : (l x : ℕ) → l < 64 → firstBits (suc l) x ≡ 2 * firstBits l x + bitAt l x

@@ -12,6 +12,7 @@ use lib.Dec.{ltb}
 use lib.ListN.{length, take, drop}
 use lib.Seq.{slice, slice-cons, slice-empty, length-slice, take-nil}
 use lib.Pow.{shr-mono}
+use Rattle.basics.proofs.Bools.{differ}
 use Rattle.words.specs.Keys.{sharedBits, prefixItem}
 use Rattle.words.proofs.Sharing.{halve, shared-le, shared-iff, shared-lt, shared-min, parting}
 use Rattle.words.proofs.Items.{item-inj}
@@ -149,7 +150,7 @@ module _ (T : List ℕ) (t : Table T) where
 
 -- a test that comes out true let the ones before it fail
 passed : (t u : Bool) → cond t false u ≡ true → (t ≡ false) × (u ≡ true)
-passed true u e = absurd (let z : _≡_ {A = ℕ} 0 1 = cc in omega arith)
+passed true u e = differ (cc)
 passed false u e = (refl, e)
 
 -- what is known where there is a bucket i

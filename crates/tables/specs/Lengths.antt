@@ -3,15 +3,15 @@ use mathlib.Core.Bool.{cond}
 use Prim.Native.Nat.{ℕ, _+_, _-_, _*_}
 use lib.Dec.{ltb}
 use Rattle.refusals.specs.Numbers.{number, names}
-use Rattle.cells.specs.Cells.{cellCount}
+use Rattle.cells.specs.Cells.{cellCount, workCount}
 use Rattle.tables.specs.Tables.{mostKeys}
 use Rattle.tables.specs.Delimiters.{buckets}
 use Rattle.tables.specs.declared.lengths.Lend.{Lend}
 use Rattle.tables.specs.declared.lengths.Lend.the-variants.{Lengths, Refused}
 
 -- t: the handles of n keys, none if n < 2
-abbrev pub handles : ℕ → ℕ
-handles n = n - 2
+abbrev pub handleCount : ℕ → ℕ
+handleCount n = n - 2
 
 -- C(n) + C(k) call cells
 abbrev pub callCells : ℕ → ℕ → ℕ
@@ -19,15 +19,15 @@ callCells n b = cellCount n + cellCount (buckets n b)
 
 -- C(t) handle cells
 abbrev pub handleCells : ℕ → ℕ
-handleCells n = cellCount (handles n)
+handleCells n = cellCount (handleCount n)
 
--- 2 × C(n) + 2 × n numbers of work for the call build
+-- work for map 1, which is enough for map 2
 abbrev pub callWork : ℕ → ℕ
-callWork n = 2 * cellCount n + 2 * n
+callWork n = workCount n
 
--- 2 × C(t) + 2 × t numbers of work for the neighbour build
+-- work for map 3
 abbrev pub neighbourWork : ℕ → ℕ
-neighbourWork n = 2 * cellCount (handles n) + 2 * handles n
+neighbourWork n = workCount (handleCount n)
 
 -- what a caller is told: call cells, handle cells, left, right, work of the call build, work of the neighbour build;
 -- or a refusal's number and what it names

@@ -1,9 +1,10 @@
 // The named length of every store that a caller lends (document 01, "Refusal numbers and their order").
 ghost use mathlib.Core.Path.{_≡_};
 ghost use Prim.Native.Nat.{_≤_};
-ghost use Rattle.tables.specs.Lengths.{handles, callCells, handleCells, callWork, neighbourWork, told, namedLengths};
+ghost use Rattle.tables.specs.Lengths.{handleCount, callCells, handleCells, callWork, neighbourWork, told, namedLengths};
 use crate::delimiter::bucket_count;
 use cells::cell_count;
+use cells::work_count;
 use refusals::Refusal;
 
 // What a caller has to lend, in 16-bit numbers.
@@ -24,7 +25,7 @@ pub enum Lend {
 
 // How many splits have a handle: all but the root.
 pub fn handle_count(n: usize) -> usize
-    ensures { λ r. ⌜ r ≡ handles n ⌝ }
+    ensures { λ r. ⌜ r ≡ handleCount n ⌝ }
 {
     if n < 2 {
         return 0;
@@ -53,7 +54,7 @@ pub fn call_work(n: usize) -> usize
     requires { ⌜ n ≤ 32768 ⌝ }
     ensures { λ r. ⌜ r ≡ callWork n ⌝ }
 {
-    2 * cell_count(n) + 2 * n
+    work_count(n)
 }
 
 // The work of the neighbour build.
@@ -61,8 +62,7 @@ pub fn neighbour_work(n: usize) -> usize
     requires { ⌜ n ≤ 32768 ⌝ }
     ensures { λ r. ⌜ r ≡ neighbourWork n ⌝ }
 {
-    let t = handle_count(n);
-    2 * cell_count(t) + 2 * t
+    work_count(handle_count(n))
 }
 
 // The named length of every store for n keys in buckets of b rows: refusal 1 for more than 32,768 keys, then 2 for a b outside 2 to 256.

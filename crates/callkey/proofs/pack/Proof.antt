@@ -23,24 +23,6 @@ returns-4 : tie.Need-returns-4
 unfolding packSays
 returns-4 c = search (needs, lt-ltb, le-ltb)
 
-mul-top : tie.Need-mul-top
-mul-top c = search needs
-
-mul-top-2 : tie.Need-mul-top-2
-mul-top-2 c = search needs
-
-add-top : tie.Need-add-top
-add-top c = search needs
-
-mul-t14 : tie.Need-mul-t14
-mul-t14 c = search needs
-
-add-t13 : tie.Need-add-t13
-add-t13 c = search needs
-
-add-t15 : tie.Need-add-t15
-add-t15 c = search needs
-
 returns-5 : tie.Need-returns-5
 unfolding packSays
 returns-5 c =
@@ -60,10 +42,10 @@ pack-spec =
     returns-2
     returns-3
     returns-4
-    mul-top
-    mul-top-2
-    add-top
-    mul-t14
-    add-t13
-    add-t15
+    (λ c. search needs)
+    (λ c. search needs)
+    (λ c. search needs)
+    (λ c. search needs)
+    (λ c. search needs)
+    (λ c. search needs)
     returns-5)

@@ -10,21 +10,9 @@ returns : tie.Need-returns
 unfolding unpackSays
 returns c = search (needs, lt-ltb, le-ltb)
 
-cast-t10 : tie.Need-cast-t10
-cast-t10 c = search needs
-
-cast-t11 : tie.Need-cast-t11
-cast-t11 c = search needs
-
-cast-t12 : tie.Need-cast-t12
-cast-t12 c = search needs
-
-cast-t13 : tie.Need-cast-t13
-cast-t13 c = search needs
-
 returns-2 : tie.Need-returns-2
 unfolding unpackSays
 returns-2 c = simp (le-ltb _ _ (c .if1 .left), div-one)
 
 pub unpack-spec : {M : Type 1} → statement M
-unpack-spec = tie.close (tie.spec returns cast-t10 cast-t11 cast-t12 cast-t13 returns-2)
+unpack-spec = tie.close (tie.spec returns (λ c. search needs) (λ c. search needs) (λ c. search needs) (λ c. search needs) returns-2)

@@ -9,22 +9,13 @@ use Rattle.items.proofs.key_value.Tie as tie
 offset : (c : tie.After-bucket-length) → let a = c .before .before .args in a .r % a .b < 256
 offset c = let s = c .before .before in offset-small (s .args .b) (s .args .keys .now) (s .pre .0) (s .args .r) (s .pre .1)
 
-div-bucket-length : tie.Need-div-bucket-length
-div-bucket-length c = search needs
-
 bucket-length-requires : tie.Need-bucket-length-requires
 bucket-length-requires c κs =
     let s = c .before in
     (s .pre .0 .table, sorted-bucketed (s .pre .0), row-bucket (s .args .b) (s .args .keys .now) (s .pre .0) (s .args .r) (s .pre .1))
 
-rem-offset : tie.Need-rem-offset
-rem-offset c = search needs
-
 cast-offset : tie.Need-cast-offset
 cast-offset c = omega (arith, offset c)
-
-mul-result : tie.Need-mul-result
-mul-result c = search needs
 
 add-result : tie.Need-add-result
 add-result c = omega (arith, offset c)
@@ -34,18 +25,15 @@ cast-result c =
     let s = c .before .before in
     omega (arith, key-value-small (s .args .b) (s .args .keys .now) (s .pre .0) (s .args .r) (s .pre .1))
 
-returns : tie.Need-returns
-returns c = search needs
-
 pub key-value-spec : {M : Type 1} → statement M
 key-value-spec =
     tie.close
     (tie.spec
-    div-bucket-length
+    (λ c. search needs)
     bucket-length-requires
-    rem-offset
+    (λ c. search needs)
     cast-offset
-    mul-result
+    (λ c. search needs)
     add-result
     cast-result
-    returns)
+    (λ c. search needs))

@@ -19,12 +19,6 @@ mul-prefix-item c = omega (arith, begins (c .before))
 shared-slice-read-prefix-item : tie.Need-shared-slice-read-prefix-item
 shared-slice-read-prefix-item c = begins (c .before .before)
 
-bucket-length-requires : tie.Need-bucket-length-requires
-bucket-length-requires c κs = search needs
-
-prefix-item-requires : tie.Need-prefix-item-requires
-prefix-item-requires c κs = search needs
-
 returns : tie.Need-returns
 returns c = cc
 
@@ -35,6 +29,6 @@ prefix-at-spec =
     mul-first
     mul-prefix-item
     shared-slice-read-prefix-item
-    bucket-length-requires
-    prefix-item-requires
+    (λ c κs. search needs)
+    (λ c κs. search needs)
     returns)

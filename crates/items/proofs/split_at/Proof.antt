@@ -3,14 +3,8 @@ use borrow.Author.Needs.{needs}
 use Rattle.items.proofs.split_at.Statement.{statement}
 use Rattle.items.proofs.split_at.Tie as tie
 
-entry-at-requires : tie.Need-entry-at-requires
-entry-at-requires c κs = search needs
-
-handle-split-requires : tie.Need-handle-split-requires
-handle-split-requires c κs = search needs
-
 returns : tie.Need-returns
 returns c = cc
 
 pub split-at-spec : {M : Type 1} → statement M
-split-at-spec = tie.close (tie.spec entry-at-requires handle-split-requires returns)
+split-at-spec = tie.close (tie.spec (λ c κs. search needs) (λ c κs. search needs) returns)

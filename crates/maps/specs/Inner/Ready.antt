@@ -8,9 +8,9 @@ use Rattle.cells.specs.Cells.{segment, cellOf, Segment}
 use Rattle.items.specs.Items.{itemsOf, valuesOf, Known}
 use Rattle.maps.specs.declared.Map.{Map}
 use Rattle.maps.specs.declared.Touched.{Touched}
-use Rattle.maps.specs.Inner.Peel.{touchb}
-use Rattle.maps.specs.Inner.Work.{Holds, Beyond, Peeled, AllSeen, turnItem, turnCell}
-use Rattle.maps.specs.Inner.Fill.{fix, Valued, Clean}
+use Rattle.jams.specs.Inner.Peel.{touchb}
+use Rattle.jams.specs.Inner.Work.{Holds, Beyond, Peeled, AllSeen, turnItem, turnCell}
+use Rattle.jams.specs.Inner.Fill.{fix, Valued, Clean}
 
 -- the hash of item i
 abbrev pub hashOf : Map → List ℕ → ℕ → ℕ

@@ -8,21 +8,6 @@ use Rattle.tables.proofs.Rising.{no-fall-table}
 use Rattle.neighbourvectors.proofs.fill_bounds.Statement.{statement}
 use Rattle.neighbourvectors.proofs.fill_bounds.Tie as tie
 
-returns : tie.Need-returns
-returns c = search needs
-
-first-fall-requires : tie.Need-first-fall-requires
-first-fall-requires c κs = search needs
-
-returns-2 : tie.Need-returns-2
-returns-2 c = search needs
-
-returns-3 : tie.Need-returns-3
-returns-3 c = search needs
-
-returns-4 : tie.Need-returns-4
-returns-4 c = search needs
-
 build-bounds-requires : tie.Need-build-bounds-requires
 build-bounds-requires c κs =
     let e = c .before .before in
@@ -38,25 +23,16 @@ build-bounds-requires c κs =
       right-room = omega (arith, same, e .if4 .left);
     }
 
-same-length : tie.Need-same-length
-same-length c = search needs
-
-same-length-2 : tie.Need-same-length-2
-same-length-2 c = search needs
-
-returns-5 : tie.Need-returns-5
-returns-5 c = search needs
-
 pub fill-bounds-spec : {M : Type 1} → statement M
 fill-bounds-spec =
     tie.close
     (tie.spec
-    returns
-    first-fall-requires
-    returns-2
-    returns-3
-    returns-4
+    (λ c. search needs)
+    (λ c κs. search needs)
+    (λ c. search needs)
+    (λ c. search needs)
+    (λ c. search needs)
     build-bounds-requires
-    same-length
-    same-length-2
-    returns-5)
+    (λ c. search needs)
+    (λ c. search needs)
+    (λ c. search needs))

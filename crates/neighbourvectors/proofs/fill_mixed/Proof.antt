@@ -13,32 +13,11 @@ Inv-loop store₀ from add most i₀ store i = length store ≡ length store₀
 abbrev μ-loop : tie.MeasureT-loop
 μ-loop store₀ from add most i₀ store i = length store₀ - i
 
-loop-holds : tie.Need-loop-holds Inv-loop μ-loop
-loop-holds c = search needs
-
-mixed-requires : tie.Need-mixed-requires Inv-loop μ-loop
-mixed-requires c κs = search needs
-
-mul-store : tie.Need-mul-store Inv-loop μ-loop
-mul-store c = search needs
-
 slice-write-store : tie.Need-slice-write-store Inv-loop μ-loop
 slice-write-store c = omega arith
 
-add-i : tie.Need-add-i Inv-loop μ-loop
-add-i c = search needs
-
 loop-less : tie.Need-loop-less Inv-loop μ-loop
 loop-less c = omega arith
-
-loop-again : tie.Need-loop-again Inv-loop μ-loop
-loop-again c = search needs
-
-same-length : tie.Need-same-length Inv-loop μ-loop
-same-length c = search needs
-
-returns : tie.Need-returns Inv-loop μ-loop
-returns c = search needs
 
 pub fill-mixed-spec : {M : Type 1} → statement M
 fill-mixed-spec =
@@ -46,12 +25,12 @@ fill-mixed-spec =
     (tie.spec
     Inv-loop
     μ-loop
-    loop-holds
-    mixed-requires
-    mul-store
+    (λ c. search needs)
+    (λ c κs. search needs)
+    (λ c. search needs)
     slice-write-store
-    add-i
+    (λ c. search needs)
     loop-less
-    loop-again
-    same-length
-    returns)
+    (λ c. search needs)
+    (λ c. search needs)
+    (λ c. search needs))

@@ -9,60 +9,21 @@ use Rattle.call.proofs.Asking.{row-fits, rule-long, rule-row}
 use Rattle.call.proofs.ask.by_rule.Statement.{statement}
 use Rattle.call.proofs.ask.by_rule.Tie as tie
 
-look-up-requires : tie.Need-look-up-requires
-look-up-requires c κs = search needs
-
 returns : tie.Need-returns
 returns c =
     let s = c .before .before .before .before in
     rule-long (s .args .keys .now) (s .args .b) (s .args .seed1) (s .args .seed2) (s .args .cells .now) (s .args .x)
     (c .before .look-up .result) (c .before .look-up .ensures) (c .if1 .taken)
 
-bucket-count-requires : tie.Need-bucket-count-requires
-bucket-count-requires c κs = search needs
-
-cell-count-requires : tie.Need-cell-count-requires
-cell-count-requires c κs = search needs
-
-cast-prefix-item : tie.Need-cast-prefix-item
-cast-prefix-item c = search needs
-
-prefix-item-requires : tie.Need-prefix-item-requires
-prefix-item-requires c κs = search needs
-
-mul-look-up : tie.Need-mul-look-up
-mul-look-up c = search needs
-
-sub-look-up : tie.Need-sub-look-up
-sub-look-up c = search needs
-
-part-look-up-start : tie.Need-part-look-up-start
-part-look-up-start c = search needs
-
-part-look-up-end : tie.Need-part-look-up-end
-part-look-up-end c = search needs
-
-look-up-requires-2 : tie.Need-look-up-requires-2
-look-up-requires-2 c κs = search needs
-
-widen-requires : tie.Need-widen-requires
-widen-requires c κs = search needs
-
 mul-compared : tie.Need-mul-compared
 mul-compared c =
     let s = c .before .before .before .before .before .before .before .before .before .before in
     omega (arith, row-fits (c .widen .result) (s .args .b) (c .widen .ensures .1) (s .pre .most))
 
-widen-requires-2 : tie.Need-widen-requires-2
-widen-requires-2 c κs = search needs
-
 add-compared : tie.Need-add-compared
 add-compared c =
     let s = c .before .before .before .before .before .before .before .before .before .before .before in
     omega (arith, row-fits (c .before .widen .result) (s .args .b) (c .before .widen .ensures .1) (s .pre .most), c .widen2 .ensures .1)
-
-compared-requires : tie.Need-compared-requires
-compared-requires c κs = search needs
 
 returns-2 : tie.Need-returns-2
 returns-2 c =
@@ -84,20 +45,20 @@ pub by-rule-spec : {M : Type 1} → statement M
 by-rule-spec =
     tie.close
     (tie.spec
-    look-up-requires
+    (λ c κs. search needs)
     returns
-    bucket-count-requires
-    cell-count-requires
-    cast-prefix-item
-    prefix-item-requires
-    mul-look-up
-    sub-look-up
-    part-look-up-start
-    part-look-up-end
-    look-up-requires-2
-    widen-requires
+    (λ c κs. search needs)
+    (λ c κs. search needs)
+    (λ c. search needs)
+    (λ c κs. search needs)
+    (λ c. search needs)
+    (λ c. search needs)
+    (λ c. search needs)
+    (λ c. search needs)
+    (λ c κs. search needs)
+    (λ c κs. search needs)
     mul-compared
-    widen-requires-2
+    (λ c κs. search needs)
     add-compared
-    compared-requires
+    (λ c κs. search needs)
     returns-2)

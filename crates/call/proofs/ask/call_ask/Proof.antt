@@ -20,18 +20,12 @@ returns-3 : tie.Need-returns-3
 unfolding callSays
 returns-3 c = search (needs, lt-ltb, le-ltb)
 
-call-cells-requires : tie.Need-call-cells-requires
-call-cells-requires c κs = search needs
-
 returns-4 : tie.Need-returns-4
 returns-4 c =
     let e = c .before in
     let s = e .before .before .before .before .before .before in
     says-short (s .args .keys .now) (s .args .b) (s .args .seed1) (s .args .seed2) (s .args .cells .now) (s .args .x)
     (e .before .before .before .if1 .left) (e .before .before .if2 .left) (e .before .if3 .left) (omega (arith, c .if4 .taken))
-
-by-rule-requires : tie.Need-by-rule-requires
-by-rule-requires c κs = search needs
 
 returns-5 : tie.Need-returns-5
 returns-5 c =
@@ -43,4 +37,4 @@ returns-5 c =
 pub call-ask-spec : {M : Type 1} → statement M
 call-ask-spec =
     tie.close
-    (tie.spec returns returns-2 returns-3 call-cells-requires returns-4 by-rule-requires returns-5)
+    (tie.spec returns returns-2 returns-3 (λ c κs. search needs) returns-4 (λ c κs. search needs) returns-5)

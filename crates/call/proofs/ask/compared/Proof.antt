@@ -4,12 +4,6 @@ use borrow.Author.Tests.{lt-ltb, le-ltb, eq-eqb, ne-eqb}
 use Rattle.call.proofs.ask.compared.Statement.{statement}
 use Rattle.call.proofs.ask.compared.Tie as tie
 
-mul-if2 : tie.Need-mul-if2
-mul-if2 c = search needs
-
-shared-slice-read-if2 : tie.Need-shared-slice-read-if2
-shared-slice-read-if2 c = search needs
-
 returns : tie.Need-returns
 returns c = search (needs, lt-ltb, le-ltb, eq-eqb, ne-eqb)
 
@@ -20,4 +14,4 @@ returns-3 : tie.Need-returns-3
 returns-3 c = search (needs, lt-ltb, le-ltb, eq-eqb, ne-eqb)
 
 pub compared-spec : {M : Type 1} → statement M
-compared-spec = tie.close (tie.spec mul-if2 shared-slice-read-if2 returns returns-2 returns-3)
+compared-spec = tie.close (tie.spec (λ c. search needs) (λ c. search needs) returns returns-2 returns-3)

@@ -6,21 +6,6 @@ use Rattle.call.proofs.Joining.{jammed-first, jammed-second, both-built
 use Rattle.call.proofs.build.build_maps.Statement.{statement}
 use Rattle.call.proofs.build.build_maps.Tie as tie
 
-call-cells-requires : tie.Need-call-cells-requires
-call-cells-requires c κs = search needs
-
-build-keys-requires : tie.Need-build-keys-requires
-build-keys-requires c κs = search needs
-
-clear-requires : tie.Need-clear-requires
-clear-requires c κs = search needs
-
-same-length : tie.Need-same-length
-same-length c = search needs
-
-same-length-2 : tie.Need-same-length-2
-same-length-2 c = search needs
-
 returns : tie.Need-returns
 returns c =
     let k = c .before .before .before .before .before .before .before .before .before in
@@ -29,18 +14,6 @@ returns c =
     (k .build-keys .last .1 .1 .1 .0) (k .build-keys .last .1 .1 .1 .1 .0) (k .build-keys .result) (k .build-keys .ensures)
     (c .before .before .before .before .if1 .taken) (c .before .before .clear .last .0)
     (rw (k .before .before .before .call-cells .ensures) at (c .before .before .clear .ensures))
-
-build-prefixes-requires : tie.Need-build-prefixes-requires
-build-prefixes-requires c κs = search needs
-
-clear-requires-2 : tie.Need-clear-requires-2
-clear-requires-2 c κs = search needs
-
-same-length-3 : tie.Need-same-length-3
-same-length-3 c = search needs
-
-same-length-4 : tie.Need-same-length-4
-same-length-4 c = search needs
 
 returns-2 : tie.Need-returns-2
 returns-2 c =
@@ -53,12 +26,6 @@ returns-2 c =
     (p .build-prefixes .last .1 .1 .1 .0) (p .build-prefixes .last .1 .1 .1 .1 .0) (p .build-prefixes .result) (p .build-prefixes .ensures)
     (c .before .before .before .before .if2 .taken) (c .before .before .clear2 .last .0)
     (rw (k .before .before .before .call-cells .ensures) at (c .before .before .clear2 .ensures))
-
-same-length-5 : tie.Need-same-length-5
-same-length-5 c = search needs
-
-same-length-6 : tie.Need-same-length-6
-same-length-6 c = search needs
 
 returns-3 : tie.Need-returns-3
 returns-3 c =
@@ -75,17 +42,17 @@ pub build-maps-spec : {M : Type 1} → statement M
 build-maps-spec =
     tie.close
     (tie.spec
-    call-cells-requires
-    build-keys-requires
-    clear-requires
-    same-length
-    same-length-2
+    (λ c κs. search needs)
+    (λ c κs. search needs)
+    (λ c κs. search needs)
+    (λ c. search needs)
+    (λ c. search needs)
     returns
-    build-prefixes-requires
-    clear-requires-2
-    same-length-3
-    same-length-4
+    (λ c κs. search needs)
+    (λ c κs. search needs)
+    (λ c. search needs)
+    (λ c. search needs)
     returns-2
-    same-length-5
-    same-length-6
+    (λ c. search needs)
+    (λ c. search needs)
     returns-3)

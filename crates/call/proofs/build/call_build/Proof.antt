@@ -28,9 +28,6 @@ returns-3 c =
     let s = c .before .before .before .before .before .before in
     refusal 2 0 (bucket-too-large (s .args .keys .now) (s .args .b) (s .args .cells .now) (s .args .work .now) (c .before .before .if1 .left) (c .before .if2 .left) (c .if3 .taken)) refl refl refl
 
-first-fall-requires : tie.Need-first-fall-requires
-first-fall-requires c κs = search needs
-
 returns-4 : tie.Need-returns-4
 returns-4 c =
     let f = c .before in
@@ -39,9 +36,6 @@ returns-4 c =
     refusal 3 (f .first-fall .result)
     (falls (s .args .keys .now) (s .args .b) (s .args .cells .now) (s .args .work .now) (e .before .before .if1 .left) (e .before .if2 .left) (e .if3 .left) (f .first-fall .result) (f .first-fall .ensures) (c .if4 .taken))
     refl refl refl
-
-call-cells-requires : tie.Need-call-cells-requires
-call-cells-requires c κs = search needs
 
 returns-5 : tie.Need-returns-5
 returns-5 c =
@@ -53,9 +47,6 @@ returns-5 c =
     (cells-short (s .args .keys .now) (s .args .b) (s .args .cells .now) (s .args .work .now) (e .before .before .if1 .left) (e .before .if2 .left) (e .if3 .left) (omega (arith, f .first-fall .ensures, r .if4 .left))
     (omega (arith, c .before .call-cells .ensures, c .if5 .taken)))
     refl refl refl
-
-call-work-requires : tie.Need-call-work-requires
-call-work-requires c κs = search needs
 
 returns-6 : tie.Need-returns-6
 returns-6 c =
@@ -89,12 +80,6 @@ build-maps-requires c κs =
       workLong = omega (arith, h .before .call-work .ensures, h .if6 .left);
     }
 
-same-length : tie.Need-same-length
-same-length c = search needs
-
-same-length-2 : tie.Need-same-length-2
-same-length-2 c = search needs
-
 returns-7 : tie.Need-returns-7
 returns-7 c =
     let m = c .before .before .before .before in
@@ -116,13 +101,13 @@ call-build-spec =
     returns
     returns-2
     returns-3
-    first-fall-requires
+    (λ c κs. search needs)
     returns-4
-    call-cells-requires
+    (λ c κs. search needs)
     returns-5
-    call-work-requires
+    (λ c κs. search needs)
     returns-6
     build-maps-requires
-    same-length
-    same-length-2
+    (λ c. search needs)
+    (λ c. search needs)
     returns-7)

@@ -33,24 +33,12 @@ digit p =
 loop-holds : tie.Need-loop-holds Inv-loop μ-loop
 loop-holds c = (omega arith, omega arith, ap (folded 0) (sym (slice-empty (c .before .args .i) (c .before .args .s .now))), omega arith)
 
-shared-slice-read-wide : tie.Need-shared-slice-read-wide Inv-loop μ-loop
-shared-slice-read-wide c = search needs
-
-wide-requires : tie.Need-wide-requires Inv-loop μ-loop
-wide-requires c κs = search needs
-
 sub-d : tie.Need-sub-d Inv-loop μ-loop
 sub-d c = let d = digit c .range in omega arith
-
-add-t12 : tie.Need-add-t12 Inv-loop μ-loop
-add-t12 c = search needs
 
 returns : tie.Need-returns Inv-loop μ-loop
 unfolding Counted
 returns c = let d = digit (c .before) .range in (digit (c .before) .large (start (c .before) .args .most) (omega arith), refl)
-
-add-t14 : tie.Need-add-t14 Inv-loop μ-loop
-add-t14 c = search needs
 
 returns-2 : tie.Need-returns-2 Inv-loop μ-loop
 unfolding Counted
@@ -59,23 +47,8 @@ returns-2 c =
     let d = digit p .range in
     (digit p .large (start p .args .most) (omega arith), refl)
 
-mul-v : tie.Need-mul-v Inv-loop μ-loop
-mul-v c = search needs
-
-add-v : tie.Need-add-v Inv-loop μ-loop
-add-v c = search needs
-
-add-k : tie.Need-add-k Inv-loop μ-loop
-add-k c = search needs
-
-loop-less : tie.Need-loop-less Inv-loop μ-loop
-loop-less c = search needs
-
 loop-again : tie.Need-loop-again Inv-loop μ-loop
 loop-again c = (omega arith, omega arith, digit (c .before .before) .step, omega arith)
-
-add-t15 : tie.Need-add-t15 Inv-loop μ-loop
-add-t15 c = search needs
 
 returns-3 : tie.Need-returns-3 Inv-loop μ-loop
 unfolding Counted
@@ -93,17 +66,17 @@ number-spec =
     Inv-loop
     μ-loop
     loop-holds
-    shared-slice-read-wide
-    wide-requires
+    (λ c. search needs)
+    (λ c κs. search needs)
     sub-d
-    add-t12
+    (λ c. search needs)
     returns
-    add-t14
+    (λ c. search needs)
     returns-2
-    mul-v
-    add-v
-    add-k
-    loop-less
+    (λ c. search needs)
+    (λ c. search needs)
+    (λ c. search needs)
+    (λ c. search needs)
     loop-again
-    add-t15
+    (λ c. search needs)
     returns-3)

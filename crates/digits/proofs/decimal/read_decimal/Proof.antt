@@ -18,9 +18,6 @@ returns : tie.Need-returns
 unfolding ReadsAmount
 returns c = λ v he rest f. omega arith
 
-is-digit-requires : tie.Need-is-digit-requires
-is-digit-requires c κs = search needs
-
 returns-2 : tie.Need-returns-2
 unfolding ReadsAmount
 returns-2 c =
@@ -29,17 +26,11 @@ returns-2 c =
     let z : _≡_ {A = ℕ} 0 1 = cc in
     omega arith
 
-run-end-requires : tie.Need-run-end-requires
-run-end-requires c κs = search needs
-
 returns-3 : tie.Need-returns-3
 returns-3 c =
     let p = c .before in
     let a = start p .args in
     none-short (a .s .now) (a .i) (p .run-end .result) (a .end) (p .run-end .ensures) (a .most) (c .if3 .taken)
-
-shared-slice-read-if4 : tie.Need-shared-slice-read-if4
-shared-slice-read-if4 c = search needs
 
 returns-4 : tie.Need-returns-4
 returns-4 c =
@@ -53,20 +44,11 @@ returns-5 c =
     let a = start p .args in
     none-empty (a .s .now) (a .i) (p .run-end .result) (a .end) (p .run-end .ensures) (a .most) (c .if5 .taken)
 
-shared-slice-read-if6 : tie.Need-shared-slice-read-if6
-shared-slice-read-if6 c = search needs
-
-add-if7 : tie.Need-add-if7
-add-if7 c = search needs
-
 returns-6 : tie.Need-returns-6
 returns-6 c =
     let p = c .before .before .before .before .before .before .before in
     let a = start p .args in
     none-zero (a .s .now) (a .i) (p .run-end .result) (a .end) (p .run-end .ensures) (a .most) (c .before .if6 .taken) (c .if7 .taken)
-
-number-requires : tie.Need-number-requires
-number-requires c κs = search needs
 
 returns-7 : tie.Need-returns-7
 returns-7 c =
@@ -84,15 +66,15 @@ read-decimal-spec =
     tie.close
     (tie.spec
     returns
-    is-digit-requires
+    (λ c κs. search needs)
     returns-2
-    run-end-requires
+    (λ c κs. search needs)
     returns-3
-    shared-slice-read-if4
+    (λ c. search needs)
     returns-4
     returns-5
-    shared-slice-read-if6
-    add-if7
+    (λ c. search needs)
+    (λ c. search needs)
     returns-6
-    number-requires
+    (λ c κs. search needs)
     returns-7)

@@ -5,9 +5,6 @@ use Rattle.digits.proofs.Hexes.{hexes-low, hexes-high, hexes-none}
 use Rattle.digits.proofs.hex.hex_value.Statement.{statement}
 use Rattle.digits.proofs.hex.hex_value.Tie as tie
 
-wide-requires : tie.Need-wide-requires
-wide-requires c κs = search needs
-
 returns : tie.Need-returns
 returns c = hexes-none (c .before .before .args .b) (c .before .wide .result) (c .before .wide .ensures) (omega arith) (omega arith)
 
@@ -21,9 +18,6 @@ returns-3 c =
     let f = c .before .before .before in
     hexes-none (f .before .args .b) (f .wide .result) (f .wide .ensures) (omega arith) (omega arith)
 
-sub-result : tie.Need-sub-result
-sub-result c = search needs
-
 returns-4 : tie.Need-returns-4
 returns-4 c =
     let f = c .before .before .before .before in
@@ -36,4 +30,4 @@ returns-5 c =
 
 pub hex-value-spec : {M : Type 1} → statement M
 hex-value-spec =
-    tie.close (tie.spec wide-requires returns returns-2 returns-3 sub-result returns-4 returns-5)
+    tie.close (tie.spec (λ c κs. search needs) returns returns-2 returns-3 (λ c. search needs) returns-4 returns-5)

@@ -21,9 +21,6 @@ returns c =
     let a = c .before .before .args in
     hex-short (a .s .now) (a .i) (a .most) (a .end) (omega arith)
 
-sub-if2 : tie.Need-sub-if2 Inv-loop μ-loop
-sub-if2 c = search needs
-
 returns-2 : tie.Need-returns-2 Inv-loop μ-loop
 returns-2 c =
     let a = c .before .before .before .args in
@@ -31,15 +28,6 @@ returns-2 c =
 
 loop-holds : tie.Need-loop-holds Inv-loop μ-loop
 loop-holds c = (omega arith, omega arith, hex-start (c .before .before .before .args .s .now) (c .before .before .before .args .i))
-
-add-hex-value : tie.Need-add-hex-value Inv-loop μ-loop
-add-hex-value c = search needs
-
-shared-slice-read-hex-value : tie.Need-shared-slice-read-hex-value Inv-loop μ-loop
-shared-slice-read-hex-value c = search needs
-
-hex-value-requires : tie.Need-hex-value-requires Inv-loop μ-loop
-hex-value-requires c κs = search needs
 
 returns-3 : tie.Need-returns-3 Inv-loop μ-loop
 returns-3 c =
@@ -57,12 +45,6 @@ add-v c =
     let l = c .before .before .before .before .loop in
     omega (arith, hex-fits (l .k) (l .v) (c .before .hex-value .result) (omega arith) (l .inv .1) (omega arith))
 
-add-k : tie.Need-add-k Inv-loop μ-loop
-add-k c = search needs
-
-loop-less : tie.Need-loop-less Inv-loop μ-loop
-loop-less c = search needs
-
 loop-again : tie.Need-loop-again Inv-loop μ-loop
 loop-again c =
     let l = c .before .before .before .before in
@@ -73,12 +55,6 @@ loop-again c =
       hex-step (l .loop .k) (l .loop .v) (d .result) (omega arith) (a .s .now) (a .i) (omega arith) (d .ensures .some (omega arith))
           (l .loop .inv .2),
     )
-
-add-if4 : tie.Need-add-if4 Inv-loop μ-loop
-add-if4 c = search needs
-
-shared-slice-read-if4 : tie.Need-shared-slice-read-if4 Inv-loop μ-loop
-shared-slice-read-if4 c = search needs
 
 returns-4 : tie.Need-returns-4 Inv-loop μ-loop
 returns-4 c =
@@ -92,9 +68,6 @@ returns-5 c =
     let e : l .k ≡ 16 = omega arith in
     hex-over (a .s .now) (a .i) (a .most) (a .end) (l .v) (omega arith) (rw e at (l .inv .1)) (rw e at (l .inv .2))
     (c .before .if4 .left) (c .if5 .taken)
-
-add-t10 : tie.Need-add-t10 Inv-loop μ-loop
-add-t10 c = search needs
 
 returns-6 : tie.Need-returns-6 Inv-loop μ-loop
 returns-6 c =
@@ -111,21 +84,21 @@ read-hex-spec =
     Inv-loop
     μ-loop
     returns
-    sub-if2
+    (λ c. search needs)
     returns-2
     loop-holds
-    add-hex-value
-    shared-slice-read-hex-value
-    hex-value-requires
+    (λ c. search needs)
+    (λ c. search needs)
+    (λ c κs. search needs)
     returns-3
     mul-v
     add-v
-    add-k
-    loop-less
+    (λ c. search needs)
+    (λ c. search needs)
     loop-again
-    add-if4
-    shared-slice-read-if4
+    (λ c. search needs)
+    (λ c. search needs)
     returns-4
     returns-5
-    add-t10
+    (λ c. search needs)
     returns-6)

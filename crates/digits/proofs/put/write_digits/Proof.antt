@@ -26,25 +26,13 @@ returns c =
     let a = c .before .before .args in
     writes-off (digitsIn (a .base) (a .k) (a .v) ++ (a .end ∷ [])) (a .out .now) (a .i) (omega (arith, ended-length (a .base) (a .k) (a .v) (a .end)))
 
-sub-if2 : tie.Need-sub-if2 Inv-loop μ-loop
-sub-if2 c = search needs
-
 returns-2 : tie.Need-returns-2 Inv-loop μ-loop
 returns-2 c =
     let a = c .before .before .before .args in
     writes-off (digitsIn (a .base) (a .k) (a .v) ++ (a .end ∷ [])) (a .out .now) (a .i) (omega (arith, ended-length (a .base) (a .k) (a .v) (a .end)))
 
-add-out : tie.Need-add-out Inv-loop μ-loop
-add-out c = search needs
-
-slice-write-out : tie.Need-slice-write-out Inv-loop μ-loop
-slice-write-out c = search needs
-
 loop-holds : tie.Need-loop-holds Inv-loop μ-loop
 loop-holds c = (omega arith, refl, refl)
-
-sub-j : tie.Need-sub-j Inv-loop μ-loop
-sub-j c = search needs
 
 rem-digit-byte : tie.Need-rem-digit-byte Inv-loop μ-loop
 rem-digit-byte c = omega arith
@@ -54,9 +42,6 @@ digit-byte-requires c κs =
     let b = c .before .before .before .before .before .args .base in
     omega (arith, mod-lt (c .before .loop .w) {m = b} (omega arith))
 
-add-out-2 : tie.Need-add-out-2 Inv-loop μ-loop
-add-out-2 c = search needs
-
 slice-write-out-2 : tie.Need-slice-write-out-2 Inv-loop μ-loop
 slice-write-out-2 c =
     let a = c .before .before .before .before .before .before .args in
@@ -65,9 +50,6 @@ slice-write-out-2 c =
 
 div-w : tie.Need-div-w Inv-loop μ-loop
 div-w c = omega arith
-
-loop-less : tie.Need-loop-less Inv-loop μ-loop
-loop-less c = search needs
 
 loop-again : tie.Need-loop-again Inv-loop μ-loop
 loop-again c =
@@ -79,12 +61,6 @@ loop-again c =
       length-set (l .out) (a .i + (l .j - 1)) (c .digit-byte .result) ∙ l .inv .1,
       digits-back (a .base) (l .j) (l .w) (l .out) (a .i) (c .digit-byte .result) (omega arith) (omega arith) (c .digit-byte .ensures) ∙ l .inv .2,
     )
-
-add-t11 : tie.Need-add-t11 Inv-loop μ-loop
-add-t11 c = search needs
-
-add-t9 : tie.Need-add-t9 Inv-loop μ-loop
-add-t9 c = search needs
 
 same-length : tie.Need-same-length Inv-loop μ-loop
 same-length c =
@@ -108,20 +84,20 @@ write-digits-spec =
     Inv-loop
     μ-loop
     returns
-    sub-if2
+    (λ c. search needs)
     returns-2
-    add-out
-    slice-write-out
+    (λ c. search needs)
+    (λ c. search needs)
     loop-holds
-    sub-j
+    (λ c. search needs)
     rem-digit-byte
     digit-byte-requires
-    add-out-2
+    (λ c. search needs)
     slice-write-out-2
     div-w
-    loop-less
+    (λ c. search needs)
     loop-again
-    add-t11
-    add-t9
+    (λ c. search needs)
+    (λ c. search needs)
     same-length
     returns-3)

@@ -5,15 +5,6 @@ use Rattle.lines.proofs.Lining.{line-size}
 use Rattle.lines.proofs.line.line_length.Statement.{statement}
 use Rattle.lines.proofs.line.line_length.Tie as tie
 
-number-length-requires : tie.Need-number-length-requires
-number-length-requires c κs = search needs
-
-add-result : tie.Need-add-result
-add-result c = search needs
-
-add-result-2 : tie.Need-add-result-2
-add-result-2 c = search needs
-
 returns : tie.Need-returns
 returns c =
     let a = c .before .before .args in
@@ -22,4 +13,4 @@ returns c =
     (omega arith, omega arith)
 
 pub line-length-spec : {M : Type 1} → statement M
-line-length-spec = tie.close (tie.spec number-length-requires add-result add-result-2 returns)
+line-length-spec = tie.close (tie.spec (λ c κs. search needs) (λ c. search needs) (λ c. search needs) returns)

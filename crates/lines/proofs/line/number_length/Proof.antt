@@ -6,15 +6,6 @@ use Rattle.digits.proofs.Hexes.{hex-length}
 use Rattle.lines.proofs.line.number_length.Statement.{statement}
 use Rattle.lines.proofs.line.number_length.Tie as tie
 
-enum-told : tie.Need-enum-told
-enum-told c = search needs
-
-decimal-length-requires : tie.Need-decimal-length-requires
-decimal-length-requires c κs = search needs
-
-enum-told-2 : tie.Need-enum-told-2
-enum-told-2 c = search needs
-
 returns : tie.Need-returns
 returns c = rw (c .before .enum-told .given .1) (c .decimal-length .ensures)
 
@@ -23,4 +14,4 @@ returns-2 c = rw (c .enum-told2 .given .1) (sym (hex-length (c .before .before .
 
 pub number-length-spec : {M : Type 1} → statement M
 number-length-spec =
-    tie.close (tie.spec enum-told decimal-length-requires enum-told-2 returns returns-2)
+    tie.close (tie.spec (λ c. search needs) (λ c κs. search needs) (λ c. search needs) returns returns-2)

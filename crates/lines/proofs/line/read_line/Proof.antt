@@ -24,35 +24,11 @@ after-tag c text r g =
     let a = start p .args in
     read-after (a .most) text (a .s .now) (a .i) (a .tag .now) (c .j .given .0 .0) (rw (c .j .given .1) at (p .expect .ensures)) r g
 
-expect-requires : tie.Need-expect-requires
-expect-requires c κs = search needs
-
-enum-known-j : tie.Need-enum-known-j
-enum-known-j c = search needs
-
-enum-told : tie.Need-enum-told
-enum-told c = search needs
-
 returns : tie.Need-returns
 returns c =
     let p = c .before .before in
     let a = start p .args in
     read-off (a .most) (ended (numberText (a .kind)) 10) (a .s .now) (a .i) (a .tag .now) (rw (c .enum-told .given .1) at (p .expect .ensures))
-
-enum-told-2 : tie.Need-enum-told-2
-enum-told-2 c = search needs
-
-read-decimal-requires : tie.Need-read-decimal-requires
-read-decimal-requires c κs = search needs
-
-plain-requires : tie.Need-plain-requires
-plain-requires c κs = search needs
-
-enum-told-3 : tie.Need-enum-told-3
-enum-told-3 c = search needs
-
-read-hex-requires : tie.Need-read-hex-requires
-read-hex-requires c κs = search needs
 
 returns-2 : tie.Need-returns-2
 returns-2 c =
@@ -71,14 +47,14 @@ pub read-line-spec : {M : Type 1} → statement M
 read-line-spec =
     tie.close
     (tie.spec
-    expect-requires
-    enum-known-j
-    enum-told
+    (λ c κs. search needs)
+    (λ c. search needs)
+    (λ c. search needs)
     returns
-    enum-told-2
-    read-decimal-requires
-    plain-requires
-    enum-told-3
-    read-hex-requires
+    (λ c. search needs)
+    (λ c κs. search needs)
+    (λ c κs. search needs)
+    (λ c. search needs)
+    (λ c κs. search needs)
     returns-2
     returns-3)

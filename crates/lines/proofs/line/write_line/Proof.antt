@@ -35,47 +35,17 @@ returns c =
     let a = c .before .before .before .args in
     writes-off (line (a .kind) (a .tag .now) (a .v)) (a .out .now) (a .i) (omega arith)
 
-sub-if2 : tie.Need-sub-if2
-sub-if2 c = search needs
-
-line-length-requires : tie.Need-line-length-requires
-line-length-requires c κs = search needs
-
 returns-2 : tie.Need-returns-2
 returns-2 c =
     let a = c .before .before .before .before .before .args in
     let n = c .before .line-length .ensures in
     writes-off (line (a .kind) (a .tag .now) (a .v)) (a .out .now) (a .i) (omega arith)
 
-write-bytes-requires : tie.Need-write-bytes-requires
-write-bytes-requires c κs = search needs
-
-or-requires : tie.Need-or-requires
-or-requires c κs = search needs
-
-enum-told : tie.Need-enum-told
-enum-told c = search needs
-
-write-decimal-requires : tie.Need-write-decimal-requires
-write-decimal-requires c κs = search needs
-
-enum-told-2 : tie.Need-enum-told-2
-enum-told-2 c = search needs
-
-write-hex-requires : tie.Need-write-hex-requires
-write-hex-requires c κs = search needs
-
-same-length : tie.Need-same-length
-same-length c = search needs
-
 returns-3 : tie.Need-returns-3
 returns-3 c =
     let p = c .before .before in
     after-tag (p .before .before .before .before) Decimal (p .write-decimal .last .0) (p .write-decimal .result)
     (p .before .before .enum-told .given .1) (p .write-decimal .ensures)
-
-same-length-2 : tie.Need-same-length-2
-same-length-2 c = search needs
 
 returns-4 : tie.Need-returns-4
 returns-4 c =
@@ -88,16 +58,16 @@ write-line-spec =
     tie.close
     (tie.spec
     returns
-    sub-if2
-    line-length-requires
+    (λ c. search needs)
+    (λ c κs. search needs)
     returns-2
-    write-bytes-requires
-    or-requires
-    enum-told
-    write-decimal-requires
-    enum-told-2
-    write-hex-requires
-    same-length
+    (λ c κs. search needs)
+    (λ c κs. search needs)
+    (λ c. search needs)
+    (λ c κs. search needs)
+    (λ c. search needs)
+    (λ c κs. search needs)
+    (λ c. search needs)
     returns-3
-    same-length-2
+    (λ c. search needs)
     returns-4)

@@ -26,15 +26,6 @@ loop-holds c =
     let a = c .before .before .before .args in
     (omega arith, omega arith, onward-start (a .most) (line (a .kind) (a .tag .now)) (a .n) (a .s .now) (a .i))
 
-read-line-requires : tie.Need-read-line-requires Inv-loop μ-loop
-read-line-requires c κs = search needs
-
-enum-known-next : tie.Need-enum-known-next Inv-loop μ-loop
-enum-known-next c = search needs
-
-enum-told : tie.Need-enum-told Inv-loop μ-loop
-enum-told c = search needs
-
 returns-2 : tie.Need-returns-2 Inv-loop μ-loop
 returns-2 c =
     let h = c .before .before .before .before in
@@ -42,12 +33,6 @@ returns-2 c =
     let l = h .loop in
     onward-bad (a .most) (line (a .kind) (a .tag .now)) (a .n) (a .s .now) (a .i) (l .k) (l .at) (l .inv .2) (omega arith)
     (rw (c .enum-told .given .1) at (c .before .before .read-line .ensures))
-
-add-k : tie.Need-add-k Inv-loop μ-loop
-add-k c = search needs
-
-loop-less : tie.Need-loop-less Inv-loop μ-loop
-loop-less c = search needs
 
 loop-again : tie.Need-loop-again Inv-loop μ-loop
 loop-again c =
@@ -77,11 +62,11 @@ lines-end-spec =
     μ-loop
     returns
     loop-holds
-    read-line-requires
-    enum-known-next
-    enum-told
+    (λ c κs. search needs)
+    (λ c. search needs)
+    (λ c. search needs)
     returns-2
-    add-k
-    loop-less
+    (λ c. search needs)
+    (λ c. search needs)
     loop-again
     returns-3)

@@ -33,15 +33,6 @@ returns c =
     let a = c .before .before .before .before .args in
     loads-small (a .most) (line (a .kind) (a .tag .now)) (a .n) (a .s .now) (a .i) (a .out .now) (omega arith)
 
-lines-end-requires : tie.Need-lines-end-requires Inv-loop μ-loop
-lines-end-requires c κs = search needs
-
-enum-known-end : tie.Need-enum-known-end Inv-loop μ-loop
-enum-known-end c = search needs
-
-enum-told : tie.Need-enum-told Inv-loop μ-loop
-enum-told c = search needs
-
 returns-2 : tie.Need-returns-2 Inv-loop μ-loop
 returns-2 c =
     let p = c .before .before in
@@ -53,12 +44,6 @@ loop-holds : tie.Need-loop-holds Inv-loop μ-loop
 loop-holds c =
     let a = c .before .before .before .before .before .before .before .before .args in
     (omega arith, refl, holding-start (a .most) (line (a .kind) (a .tag .now)) (a .n) (a .s .now) (a .i) (c .before .end .given .0 .0) (a .out .now))
-
-read-line-requires : tie.Need-read-line-requires Inv-loop μ-loop
-read-line-requires c κs = search needs
-
-enum-known-value : tie.Need-enum-known-value Inv-loop μ-loop
-enum-known-value c = search needs
 
 cast-out : tie.Need-cast-out Inv-loop μ-loop
 cast-out c =
@@ -74,9 +59,6 @@ mul-out c = let e = c .before .before .before .before .before .loop .inv .1 in o
 slice-write-out : tie.Need-slice-write-out Inv-loop μ-loop
 slice-write-out c = let e = c .before .before .before .before .before .loop .inv .1 in omega arith
 
-enum-told-2 : tie.Need-enum-told-2 Inv-loop μ-loop
-enum-told-2 c = search needs
-
 same-length : tie.Need-same-length Inv-loop μ-loop
 same-length c = c .before .before .before .before .loop .inv .1
 
@@ -88,12 +70,6 @@ returns-3 c =
     let j = p .before .before .end .given .0 .0 in
     absurd (holding-reads (a .most) (line (a .kind) (a .tag .now)) (a .n) (a .s .now) (a .i) j (a .out .now) (l .out) (l .k) (l .at) (l .inv .2)
     (omega arith) (stand p) (rw (c .enum-told2 .given .1) at (c .before .before .read-line .ensures)))
-
-add-k : tie.Need-add-k Inv-loop μ-loop
-add-k c = search needs
-
-loop-less : tie.Need-loop-less Inv-loop μ-loop
-loop-less c = search needs
 
 loop-again : tie.Need-loop-again Inv-loop μ-loop
 loop-again c =
@@ -128,21 +104,21 @@ load-u16-spec =
     Inv-loop
     μ-loop
     returns
-    lines-end-requires
-    enum-known-end
-    enum-told
+    (λ c κs. search needs)
+    (λ c. search needs)
+    (λ c. search needs)
     returns-2
     loop-holds
-    read-line-requires
-    enum-known-value
+    (λ c κs. search needs)
+    (λ c. search needs)
     cast-out
     mul-out
     slice-write-out
-    enum-told-2
+    (λ c. search needs)
     same-length
     returns-3
-    add-k
-    loop-less
+    (λ c. search needs)
+    (λ c. search needs)
     loop-again
     same-length-2
     returns-4)

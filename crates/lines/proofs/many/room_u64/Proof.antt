@@ -21,15 +21,6 @@ loop-holds c =
     let a = c .before .before .args in
     (omega arith, room-start (line (a .kind) (a .tag .now)) (a .xs .now) (a .room))
 
-mul-line-length : tie.Need-mul-line-length Inv-loop μ-loop
-mul-line-length c = search needs
-
-shared-slice-read-line-length : tie.Need-shared-slice-read-line-length Inv-loop μ-loop
-shared-slice-read-line-length c = search needs
-
-line-length-requires : tie.Need-line-length-requires Inv-loop μ-loop
-line-length-requires c κs = search needs
-
 returns : tie.Need-returns Inv-loop μ-loop
 returns c =
     let p = c .before .before .before .before in
@@ -38,12 +29,6 @@ returns c =
     let w = c .before .line-length in
     room-off (line (a .kind) (a .tag .now)) (a .xs .now) (a .room) (l .left) (l .k) (w .result)
     (c .before .before .before .loop-test .taken) (l .inv .1) (w .ensures .0) (c .if1 .taken)
-
-add-k : tie.Need-add-k Inv-loop μ-loop
-add-k c = search needs
-
-loop-less : tie.Need-loop-less Inv-loop μ-loop
-loop-less c = search needs
 
 loop-again : tie.Need-loop-again Inv-loop μ-loop
 loop-again c =
@@ -68,11 +53,11 @@ room-u64-spec =
     Inv-loop
     μ-loop
     loop-holds
-    mul-line-length
-    shared-slice-read-line-length
-    line-length-requires
+    (λ c. search needs)
+    (λ c. search needs)
+    (λ c κs. search needs)
     returns
-    add-k
-    loop-less
+    (λ c. search needs)
+    (λ c. search needs)
     loop-again
     returns-2)

@@ -37,18 +37,6 @@ returns c =
     let a = c .before .before .before .before .args in
     writes-off (lines (a .kind) (a .tag .now) (a .xs .now)) (a .out .now) (a .i) (omega arith)
 
-sub-room-u16 : tie.Need-sub-room-u16 Inv-loop μ-loop
-sub-room-u16 c = search needs
-
-room-u16-requires : tie.Need-room-u16-requires Inv-loop μ-loop
-room-u16-requires c κs = search needs
-
-enum-told : tie.Need-enum-told Inv-loop μ-loop
-enum-told c = search needs
-
-enum-told-2 : tie.Need-enum-told-2 Inv-loop μ-loop
-enum-told-2 c = search needs
-
 returns-2 : tie.Need-returns-2 Inv-loop μ-loop
 returns-2 c =
     let p = c .before .before in
@@ -62,26 +50,8 @@ loop-holds c =
     let a = c .before .before .before .before .before .before .before .args in
     (omega arith, put-start (line (a .kind) (a .tag .now)) (a .xs .now) (a .out .now) (a .i) (omega arith))
 
-mul-write-line : tie.Need-mul-write-line Inv-loop μ-loop
-mul-write-line c = search needs
-
-shared-slice-read-write-line : tie.Need-shared-slice-read-write-line Inv-loop μ-loop
-shared-slice-read-write-line c = search needs
-
 cast-write-line : tie.Need-cast-write-line Inv-loop μ-loop
 cast-write-line c = omega (arith, c .shared-slice-known3 .given (c .before .before .before .loop .k))
-
-write-line-requires : tie.Need-write-line-requires Inv-loop μ-loop
-write-line-requires c κs = search needs
-
-or-requires : tie.Need-or-requires Inv-loop μ-loop
-or-requires c κs = search needs
-
-add-k : tie.Need-add-k Inv-loop μ-loop
-add-k c = search needs
-
-loop-less : tie.Need-loop-less Inv-loop μ-loop
-loop-less c = search needs
 
 loop-again : tie.Need-loop-again Inv-loop μ-loop
 loop-again c =
@@ -113,19 +83,19 @@ write-u16-spec =
     Inv-loop
     μ-loop
     returns
-    sub-room-u16
-    room-u16-requires
-    enum-told
-    enum-told-2
+    (λ c. search needs)
+    (λ c κs. search needs)
+    (λ c. search needs)
+    (λ c. search needs)
     returns-2
     loop-holds
-    mul-write-line
-    shared-slice-read-write-line
+    (λ c. search needs)
+    (λ c. search needs)
     cast-write-line
-    write-line-requires
-    or-requires
-    add-k
-    loop-less
+    (λ c κs. search needs)
+    (λ c κs. search needs)
+    (λ c. search needs)
+    (λ c. search needs)
     loop-again
     same-length
     returns-3)

@@ -22,9 +22,6 @@ returns : tie.Need-returns Inv-loop μ-loop
 unfolding Expects
 returns c = λ rest f. omega arith
 
-sub-if2 : tie.Need-sub-if2 Inv-loop μ-loop
-sub-if2 c = search needs
-
 returns-2 : tie.Need-returns-2 Inv-loop μ-loop
 unfolding Expects
 returns-2 c =
@@ -35,15 +32,6 @@ returns-2 c =
 loop-holds : tie.Need-loop-holds Inv-loop μ-loop
 loop-holds c = (omega arith, λ j l. absurd (omega arith))
 
-add-if3 : tie.Need-add-if3 Inv-loop μ-loop
-add-if3 c = search needs
-
-shared-slice-read-if3 : tie.Need-shared-slice-read-if3 Inv-loop μ-loop
-shared-slice-read-if3 c = search needs
-
-shared-slice-read-if3-2 : tie.Need-shared-slice-read-if3-2 Inv-loop μ-loop
-shared-slice-read-if3-2 c = search needs
-
 returns-3 : tie.Need-returns-3 Inv-loop μ-loop
 unfolding Expects
 returns-3 c =
@@ -52,17 +40,8 @@ returns-3 c =
     let a = l .before .before .before .args in
     c .if3 .taken (from-at (a .s .now) (a .i) (a .t .now) rest f (l .loop .k) (omega arith))
 
-add-k : tie.Need-add-k Inv-loop μ-loop
-add-k c = search needs
-
-loop-less : tie.Need-loop-less Inv-loop μ-loop
-loop-less c = search needs
-
 loop-again : tie.Need-loop-again Inv-loop μ-loop
 loop-again c = (omega arith, below-more _ _ (c .before .before .before .before .loop .inv .1) (c .if3 .left))
-
-add-t5 : tie.Need-add-t5 Inv-loop μ-loop
-add-t5 c = search needs
 
 returns-4 : tie.Need-returns-4 Inv-loop μ-loop
 unfolding Expects
@@ -80,15 +59,15 @@ expect-spec =
     Inv-loop
     μ-loop
     returns
-    sub-if2
+    (λ c. search needs)
     returns-2
     loop-holds
-    add-if3
-    shared-slice-read-if3
-    shared-slice-read-if3-2
+    (λ c. search needs)
+    (λ c. search needs)
+    (λ c. search needs)
     returns-3
-    add-k
-    loop-less
+    (λ c. search needs)
+    (λ c. search needs)
     loop-again
-    add-t5
+    (λ c. search needs)
     returns-4)

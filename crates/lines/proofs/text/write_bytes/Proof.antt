@@ -30,9 +30,6 @@ returns c =
     let a = c .before .args in
     writes-off (a .t .now) (a .out .now) (a .i) (omega arith)
 
-sub-if2 : tie.Need-sub-if2 Inv-loop μ-loop
-sub-if2 c = search needs
-
 returns-2 : tie.Need-returns-2 Inv-loop μ-loop
 returns-2 c =
     let a = c .before .before .args in
@@ -43,20 +40,8 @@ loop-holds c =
     let a = c .before .before .args in
     (omega arith, sym (placed-none (a .out .now) (a .i)))
 
-shared-slice-read-out : tie.Need-shared-slice-read-out Inv-loop μ-loop
-shared-slice-read-out c = search needs
-
-add-out : tie.Need-add-out Inv-loop μ-loop
-add-out c = search needs
-
 slice-write-out : tie.Need-slice-write-out Inv-loop μ-loop
 slice-write-out c = omega (arith, kept (c .before .before))
-
-add-k : tie.Need-add-k Inv-loop μ-loop
-add-k c = search needs
-
-loop-less : tie.Need-loop-less Inv-loop μ-loop
-loop-less c = search needs
 
 loop-again : tie.Need-loop-again Inv-loop μ-loop
 loop-again c =
@@ -64,9 +49,6 @@ loop-again c =
     let l = c .before .before .loop in
     let put : List ℕ → List ℕ = λ x. set x (a .i + l .k) (getD (a .t .now) (l .k) 0) in
     (omega arith, ap put (l .inv .1) ∙ placed-step (a .out .now) (a .t .now) (a .i) (l .k) (c .before .loop-test .taken) (omega arith))
-
-add-t5 : tie.Need-add-t5 Inv-loop μ-loop
-add-t5 c = search needs
 
 same-length : tie.Need-same-length Inv-loop μ-loop
 same-length c = kept (c .before)
@@ -86,15 +68,15 @@ write-bytes-spec =
     Inv-loop
     μ-loop
     returns
-    sub-if2
+    (λ c. search needs)
     returns-2
     loop-holds
-    shared-slice-read-out
-    add-out
+    (λ c. search needs)
+    (λ c. search needs)
     slice-write-out
-    add-k
-    loop-less
+    (λ c. search needs)
+    (λ c. search needs)
     loop-again
-    add-t5
+    (λ c. search needs)
     same-length
     returns-3)

@@ -6,7 +6,7 @@ use Prim.Native.Nat.{_*_}
 use denote.Ref.{now}
 use Rattle.maps.specs.declared.Map.{Map}
 use Rattle.maps.specs.Inner.Ready.{Ready}
-use Rattle.maps.proofs.Clearing.{cleared-blank}
+use Rattle.jams.proofs.Clearing.{cleared-blank}
 use Rattle.maps.proofs.Building.{Ended, ended-filled, ended-left, room-cells, room-work, built}
 use borrow.Author.Needs.{needs}
 use Rattle.maps.proofs.build.build.Statement.{statement}
@@ -51,9 +51,6 @@ ended j =
     (λ h. ended-left (h .0 .left) (h .1))
     (j .if1 .came)
 
-clear-requires : tie.Need-clear-requires
-clear-requires c κs = search needs
-
 peel-all-requires : tie.Need-peel-all-requires
 peel-all-requires c κs =
     let k = c .before .before .before in
@@ -92,7 +89,7 @@ build-spec =
     (λ c κs. tt)
     (λ c κs. search needs)
     (λ c. search needs)
-    clear-requires
+    (λ c κs. search needs)
     peel-all-requires
     fill-all-requires
     (λ c. search needs)

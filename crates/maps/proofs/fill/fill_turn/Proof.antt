@@ -6,8 +6,8 @@ use native.Mathlib.Omega.{arith}
 use denote.Ref.{now}
 use lib.ListN.{length}
 use Rattle.items.specs.Items.{itemsOf, Known}
-use Rattle.maps.specs.Inner.Work.{mark, turnItem, turnCell}
-use Rattle.maps.proofs.Peeling.{turn-marked}
+use Rattle.jams.specs.Inner.Work.{mark, turnItem, turnCell}
+use Rattle.jams.proofs.Peeling.{turn-marked}
 use Rattle.maps.proofs.Filling.{store-fixes, cell-below}
 use borrow.Author.Needs.{needs}
 use Rattle.maps.proofs.fill.fill_turn.Statement.{statement}

@@ -5,7 +5,7 @@ use Prim.Native.Nat.{_-_, _≤_}
 use native.Mathlib.Omega.{arith}
 use lib.ListN.{length}
 use Rattle.maps.specs.Inner.Ready.{Queued}
-use Rattle.maps.proofs.Peeling.{at-most}
+use Rattle.jams.proofs.Peeling.{at-most}
 use borrow.Author.Needs.{needs}
 use Rattle.maps.proofs.peel.peel_all.Statement.{statement}
 use Rattle.maps.proofs.peel.peel_all.Tie as tie

@@ -5,9 +5,9 @@ use Prim.Native.Nat.{ℕ, _+_, _-_, _*_, _≤_, _<_}
 use native.Mathlib.Omega.{arith}
 use denote.Ref.{now}
 use lib.ListN.{length}
-use Rattle.maps.specs.Inner.Work.{Blank, Beyond, Peeled, Seen}
+use Rattle.jams.specs.Inner.Work.{Blank, Beyond, Peeled, Seen}
 use Rattle.maps.specs.Inner.Ready.{graph, AtTurn}
-use Rattle.maps.proofs.Clearing.{cleared-blank, cleared-beyond, blank-less}
+use Rattle.jams.proofs.Clearing.{cleared-blank, cleared-beyond, blank-less}
 use Rattle.maps.proofs.Trying.{first-turn, next-turn, try-at, seen-next}
 use borrow.Author.Needs.{needs}
 use Rattle.maps.proofs.peel.scan.Statement.{statement}

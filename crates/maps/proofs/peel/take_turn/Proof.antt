@@ -4,10 +4,10 @@ use mathlib.Core.Path.{sym, _∙_}
 use Prim.Native.Nat.{_+_, _*_, _<_}
 use native.Mathlib.Omega.{arith}
 use denote.Ref.{now}
-use Rattle.maps.specs.Inner.Work.{turnItem}
+use Rattle.jams.specs.Inner.Work.{turnItem}
 use Rattle.maps.specs.Inner.Ready.{AtTurn}
 use Rattle.maps.proofs.Puts.{touch-below, touches-as, put-as}
-use Rattle.maps.proofs.Peeling.{turn-counted, taken, taken-seen}
+use Rattle.jams.proofs.Peeling.{turn-counted, taken, taken-seen}
 use Rattle.maps.proofs.Trying.{next-turn, try-at, seen-three}
 use borrow.Author.Needs.{needs}
 use Rattle.maps.proofs.peel.take_turn.Statement.{statement}

@@ -4,7 +4,7 @@ use Prim.Native.Nat.{_+_, _<_}
 use native.Mathlib.Omega.{arith}
 use denote.Ref.{now}
 use lib.ListN.{getD, length-set}
-use Rattle.maps.proofs.Peeling.{tried-none, tried-turn}
+use Rattle.jams.proofs.Peeling.{tried-none, tried-turn}
 use borrow.Author.Needs.{needs}
 use Rattle.maps.proofs.peel.try_cell.Statement.{statement}
 use Rattle.maps.proofs.peel.try_cell.Tie as tie

@@ -38,27 +38,6 @@ build-requires c κs =
       handles-room b keys (s .args .handles .now) (s .args .left .now) (s .args .right .now) (s .args .work .now) (s .pre),
     )
 
-delimiter-count-requires : tie.Need-delimiter-count-requires
-delimiter-count-requires c κs = search needs
-
-clear-requires : tie.Need-clear-requires
-clear-requires c κs = search needs
-
-clear-requires-2 : tie.Need-clear-requires-2
-clear-requires-2 c κs = search needs
-
-same-length : tie.Need-same-length
-same-length c = search needs
-
-same-length-2 : tie.Need-same-length-2
-same-length-2 c = search needs
-
-same-length-3 : tie.Need-same-length-3
-same-length-3 c = search needs
-
-same-length-4 : tie.Need-same-length-4
-same-length-4 c = search needs
-
 returns : tie.Need-returns
 unfolding itemsOf valuesOf
 returns c =
@@ -71,18 +50,6 @@ returns c =
     (m .build .last .1 .1 .1 .1 .1 .1 .0) (m .build .last .1 .1 .1 .1 .1 .1 .1 .0) (m .build .result) (m .build .ensures) (t .if1 .taken)
     (e .build-bounds .last .1 .1 .0) (e .build-bounds .last .1 .1 .1 .0) (c .before .before .before .before .before .before .clear .last .0) (c .before .before .clear2 .last .0)
     (e .build-bounds .ensures .0) (e .build-bounds .ensures .1) (c .before .before .before .before .before .before .clear .ensures ∙ ap (λ (n : ℕ). cleared n (e .build-bounds .last .1 .1 .0)) d) (c .before .before .clear2 .ensures ∙ ap (λ (n : ℕ). cleared n (e .build-bounds .last .1 .1 .1 .0)) d)
-
-same-length-5 : tie.Need-same-length-5
-same-length-5 c = search needs
-
-same-length-6 : tie.Need-same-length-6
-same-length-6 c = search needs
-
-same-length-7 : tie.Need-same-length-7
-same-length-7 c = search needs
-
-same-length-8 : tie.Need-same-length-8
-same-length-8 c = search needs
 
 returns-2 : tie.Need-returns-2
 unfolding itemsOf valuesOf
@@ -100,16 +67,16 @@ build-stores-spec =
     (tie.spec
     build-bounds-requires
     build-requires
-    delimiter-count-requires
-    clear-requires
-    clear-requires-2
-    same-length
-    same-length-2
-    same-length-3
-    same-length-4
+    (λ c κs. search needs)
+    (λ c κs. search needs)
+    (λ c κs. search needs)
+    (λ c. search needs)
+    (λ c. search needs)
+    (λ c. search needs)
+    (λ c. search needs)
     returns
-    same-length-5
-    same-length-6
-    same-length-7
-    same-length-8
+    (λ c. search needs)
+    (λ c. search needs)
+    (λ c. search needs)
+    (λ c. search needs)
     returns-2)

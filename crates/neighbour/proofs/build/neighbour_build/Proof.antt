@@ -35,9 +35,6 @@ returns c =
     let s = c .before .before .before .before .before .before in
     refusal 1 0 (too-many-keys (s .args .keys .now) (s .args .handles .now) (s .args .left .now) (s .args .right .now) (s .args .work .now) (c .if1 .taken)) refl refl refl refl refl
 
-first-fall-requires : tie.Need-first-fall-requires
-first-fall-requires c κs = search needs
-
 returns-2 : tie.Need-returns-2
 returns-2 c =
     let f = c .before in
@@ -45,9 +42,6 @@ returns-2 c =
     refusal 3 (f .first-fall .result)
     (falls (s .args .keys .now) (s .args .handles .now) (s .args .left .now) (s .args .right .now) (s .args .work .now) (f .before .if1 .left) (f .first-fall .result) (f .first-fall .ensures) (c .if2 .taken))
     refl refl refl refl refl
-
-handle-cells-requires : tie.Need-handle-cells-requires
-handle-cells-requires c κs = search needs
 
 returns-3 : tie.Need-returns-3
 returns-3 c =
@@ -71,9 +65,6 @@ returns-5 c =
     let e = r .before .before in
     let s = start e in
     refusal 4 4 (right-short (s .args .keys .now) (s .args .handles .now) (s .args .left .now) (s .args .right .now) (s .args .work .now) (e .if1 .left) (rises r) (room h) (c .before .if4 .left) (c .if5 .taken)) refl refl refl refl refl
-
-neighbour-work-requires : tie.Need-neighbour-work-requires
-neighbour-work-requires c κs = search needs
 
 returns-6 : tie.Need-returns-6
 returns-6 c =
@@ -100,18 +91,6 @@ build-stores-requires c κs =
     (no-fall-table (s .args .keys .now) (λ i l. k .shared-slice-known .given i .fits) (omega (arith, rises r)))
     (e .if1 .left) (room h) (g .before .if4 .left) (g .if5 .left) (space w)
 
-same-length : tie.Need-same-length
-same-length c = search needs
-
-same-length-2 : tie.Need-same-length-2
-same-length-2 c = search needs
-
-same-length-3 : tie.Need-same-length-3
-same-length-3 c = search needs
-
-same-length-4 : tie.Need-same-length-4
-same-length-4 c = search needs
-
 returns-7 : tie.Need-returns-7
 returns-7 c =
     let m = c .before .before .before .before .before .before .before .before in
@@ -129,17 +108,17 @@ neighbour-build-spec =
     tie.close
     (tie.spec
     returns
-    first-fall-requires
+    (λ c κs. search needs)
     returns-2
-    handle-cells-requires
+    (λ c κs. search needs)
     returns-3
     returns-4
     returns-5
-    neighbour-work-requires
+    (λ c κs. search needs)
     returns-6
     build-stores-requires
-    same-length
-    same-length-2
-    same-length-3
-    same-length-4
+    (λ c. search needs)
+    (λ c. search needs)
+    (λ c. search needs)
+    (λ c. search needs)
     returns-7)

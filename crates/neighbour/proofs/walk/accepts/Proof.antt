@@ -8,19 +8,10 @@ use borrow.Author.Needs.{needs}
 use Rattle.neighbour.proofs.walk.accepts.Statement.{statement}
 use Rattle.neighbour.proofs.walk.accepts.Tie as tie
 
-wrapping-sub-usize-requires : tie.Need-wrapping-sub-usize-requires
-wrapping-sub-usize-requires c κs = search needs
-
-sub-if1 : tie.Need-sub-if1
-sub-if1 c = search needs
-
 returns : tie.Need-returns
 returns c =
     let a = c .before .before .before .args in
     not-accepted (delimiters (a .b) (a .keys .now)) (a .x) (a .f) (a .last + 1) (a .m) (λ K. omega (arith, K .path .pos, K .path .small))
-
-len-at-requires : tie.Need-len-at-requires
-len-at-requires c κs = search needs
 
 returns-2 : tie.Need-returns-2
 returns-2 c =
@@ -32,9 +23,6 @@ returns-3 c =
     let a = c .before .before .before .before .before .before .args in
     not-accepted (delimiters (a .b) (a .keys .now)) (a .x) (a .f) (a .last + 1) (a .m) (λ K. omega (arith, K .short))
 
-on-path-requires : tie.Need-on-path-requires
-on-path-requires c κs = search needs
-
 returns-4 : tie.Need-returns-4
 returns-4 c =
     let a = c .before .before .before .before .before .before .before .args in
@@ -44,4 +32,4 @@ returns-4 c =
 pub accepts-spec : {M : Type 1} → statement M
 accepts-spec =
     tie.close
-    (tie.spec wrapping-sub-usize-requires sub-if1 returns len-at-requires returns-2 returns-3 on-path-requires returns-4)
+    (tie.spec (λ c κs. search needs) (λ c. search needs) returns (λ c κs. search needs) returns-2 returns-3 (λ c κs. search needs) returns-4)

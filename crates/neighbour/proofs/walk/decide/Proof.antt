@@ -26,21 +26,6 @@ returns-3 c =
     let a = c .before .before .before .before .args in
     rw (decide-spoiled (delimiters (a .b) (a .keys .now)) (a .x) (a .first) (a .m) (a .end) (λ h g l. omega arith))
 
-sub-if4 : tie.Need-sub-if4
-sub-if4 c = search needs
-
-cast-if4 : tie.Need-cast-if4
-cast-if4 c = search needs
-
-shr-if4 : tie.Need-shr-if4
-shr-if4 c = search needs
-
-delimiter-at-requires : tie.Need-delimiter-at-requires
-delimiter-at-requires c κs = search needs
-
-tell-requires : tie.Need-tell-requires
-tell-requires c κs = search needs
-
 returns-4 : tie.Need-returns-4
 returns-4 c =
     let s = c .before .before .before .before .before .before .before .before in
@@ -50,9 +35,6 @@ returns-4 c =
     ∙ ap (told T (a .x) (a .probes))
     (sym (decide-first T (a .x) (a .first) (a .m) (a .end) (omega arith) (omega arith) (omega arith)
     (rw (s .pre .2) at (c .before .before .before .if4 .taken)) (omega arith)))
-
-tell-requires-2 : tie.Need-tell-requires-2
-tell-requires-2 c κs = search needs
 
 returns-5 : tie.Need-returns-5
 returns-5 c =
@@ -64,12 +46,6 @@ returns-5 c =
     (sym (decide-low T (a .x) (a .first) (a .m) (a .end) (omega arith) (omega arith) (omega arith)
     (rw (s .pre .2) at (c .before .before .before .if4 .taken)) (omega arith)))
 
-delimiter-at-requires-2 : tie.Need-delimiter-at-requires-2
-delimiter-at-requires-2 c κs = search needs
-
-tell-requires-3 : tie.Need-tell-requires-3
-tell-requires-3 c κs = search needs
-
 returns-6 : tie.Need-returns-6
 returns-6 c =
     let s = c .before .before .before .before .before .before .before .before in
@@ -79,9 +55,6 @@ returns-6 c =
     ∙ ap (told T (a .x) (a .probes))
     (sym (decide-high T (a .x) (a .first) (a .m) (a .end) (omega arith) (omega arith) (omega arith)
     (rw (s .pre .2) at (c .before .before .before .if4 .left)) (omega arith)))
-
-tell-requires-4 : tie.Need-tell-requires-4
-tell-requires-4 c κs = search needs
 
 returns-7 : tie.Need-returns-7
 returns-7 c =
@@ -100,16 +73,16 @@ decide-spec =
     returns
     returns-2
     returns-3
-    sub-if4
-    cast-if4
-    shr-if4
-    delimiter-at-requires
-    tell-requires
+    (λ c. search needs)
+    (λ c. search needs)
+    (λ c. search needs)
+    (λ c κs. search needs)
+    (λ c κs. search needs)
     returns-4
-    tell-requires-2
+    (λ c κs. search needs)
     returns-5
-    delimiter-at-requires-2
-    tell-requires-3
+    (λ c κs. search needs)
+    (λ c κs. search needs)
     returns-6
-    tell-requires-4
+    (λ c κs. search needs)
     returns-7)

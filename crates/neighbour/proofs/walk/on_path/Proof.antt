@@ -9,12 +9,6 @@ use borrow.Author.Needs.{needs}
 use Rattle.neighbour.proofs.walk.on_path.Statement.{statement}
 use Rattle.neighbour.proofs.walk.on_path.Tie as tie
 
-delimiter-at-requires : tie.Need-delimiter-at-requires
-delimiter-at-requires c κs = search needs
-
-shared-bits-requires : tie.Need-shared-bits-requires
-shared-bits-requires c κs = search needs
-
 returns : tie.Need-returns
 returns c =
     let s = c .before .before .before in
@@ -24,4 +18,4 @@ returns c =
     cc (share-test (s .args .x) (key .result) (s .args .l) (s .fits .x .fits) (key .ok) (omega (arith, shared-le (keyAt T (m - 1)) (keyAt T m))))
 
 pub on-path-spec : {M : Type 1} → statement M
-on-path-spec = tie.close (tie.spec delimiter-at-requires shared-bits-requires returns)
+on-path-spec = tie.close (tie.spec (λ c κs. search needs) (λ c κs. search needs) returns)

@@ -3,34 +3,13 @@ use mathlib.Core.Path.{_≡_, refl, sym, _∙_}
 use Prim.Native.Nat.{_+_, _-_}
 use native.Mathlib.Omega.{arith}
 use Rattle.tables.specs.Delimiters.{delimiters}
-use Rattle.neighbour.specs.Walk.{probeAt}
+use Rattle.walks.specs.Walk.{probeAt}
 use Rattle.neighbour.specs.Inner.{handleValue}
-use Rattle.neighbour.proofs.Descending.{accepted-means}
+use Rattle.walks.proofs.Descending.{accepted-means}
 use Rattle.neighbour.proofs.Steps.{probe-is, stepped-to, stepped-under}
 use borrow.Author.Needs.{needs}
 use Rattle.neighbour.proofs.walk.probe.Statement.{statement}
 use Rattle.neighbour.proofs.walk.probe.Tie as tie
-
-fattest-requires : tie.Need-fattest-requires
-fattest-requires c κs = search needs
-
-cast-f : tie.Need-cast-f
-cast-f c = search needs
-
-handle-count-requires : tie.Need-handle-count-requires
-handle-count-requires c κs = search needs
-
-prefix-item-requires : tie.Need-prefix-item-requires
-prefix-item-requires c κs = search needs
-
-look-up-requires : tie.Need-look-up-requires
-look-up-requires c κs = search needs
-
-cast-m : tie.Need-cast-m
-cast-m c = search needs
-
-accepts-requires : tie.Need-accepts-requires
-accepts-requires c κs = search needs
 
 -- the probe is at the length that the walk probes
 at : (c : tie.After-look-up) → let a = c .before .before .before .before .before .before .args in
@@ -64,9 +43,6 @@ returns c =
     stepped-to T (a .x) (handleValue (a .b) (a .keys .now) (a .handles .now) (a .seed3) (a .x)) (a .node) (a .last + 1)
     (p .before .before .before .fattest .result) (p .look-up .result) (at p) (found p) (c .len-at .result) (a .last) (c .len-at .ensures) refl ok
 
-sub-t19 : tie.Need-sub-t19
-sub-t19 c = search needs
-
 returns-2 : tie.Need-returns-2
 returns-2 c =
     let p = c .before .before in
@@ -82,14 +58,14 @@ pub probe-spec : {M : Type 1} → statement M
 probe-spec =
     tie.close
     (tie.spec
-    fattest-requires
-    cast-f
-    handle-count-requires
-    prefix-item-requires
-    look-up-requires
-    cast-m
-    accepts-requires
+    (λ c κs. search needs)
+    (λ c. search needs)
+    (λ c κs. search needs)
+    (λ c κs. search needs)
+    (λ c κs. search needs)
+    (λ c. search needs)
+    (λ c κs. search needs)
     len-at-requires
     returns
-    sub-t19
+    (λ c. search needs)
     returns-2)

@@ -8,9 +8,6 @@ use borrow.Author.Needs.{needs}
 use Rattle.neighbour.proofs.walk.tell.Statement.{statement}
 use Rattle.neighbour.proofs.walk.tell.Tie as tie
 
-delimiter-at-requires : tie.Need-delimiter-at-requires
-delimiter-at-requires c κs = search needs
-
 returns : tie.Need-returns
 unfolding saidByNeighbour told
 returns c =
@@ -24,4 +21,4 @@ returns-2 c =
     rw (le-ltb (a .c) (length (delimiters (a .b) (a .keys .now))) (omega arith))
 
 pub tell-spec : {M : Type 1} → statement M
-tell-spec = tie.close (tie.spec delimiter-at-requires returns returns-2)
+tell-spec = tie.close (tie.spec (λ c κs. search needs) returns returns-2)

@@ -11,9 +11,6 @@ use borrow.Author.Needs.{needs}
 use Rattle.neighbour.proofs.walk.walk_splits.Statement.{statement}
 use Rattle.neighbour.proofs.walk.walk_splits.Tie as tie
 
-entry-at-requires : tie.Need-entry-at-requires
-entry-at-requires c κs = search needs
-
 two : (c : tie.After-entry-at) → let a = c .before .before .before .before .before .args in 2 ≤ length (delimiters (a .b) (a .keys .now))
 two c = omega arith
 
@@ -42,27 +39,9 @@ returns-2 : tie.Need-returns-2
 unfolding saidByNeighbour
 returns-2 c = bad (c .before .before) (λ k. omega arith)
 
-len-at-requires : tie.Need-len-at-requires
-len-at-requires c κs = search needs
-
 returns-3 : tie.Need-returns-3
 unfolding saidByNeighbour
 returns-3 c = bad (c .before .before .before .before) (λ k. omega arith)
-
-on-path-requires : tie.Need-on-path-requires
-on-path-requires c κs = search needs
-
-descend-requires : tie.Need-descend-requires
-descend-requires c κs = search needs
-
-entry-at-requires-2 : tie.Need-entry-at-requires-2
-entry-at-requires-2 c κs = search needs
-
-entry-at-requires-3 : tie.Need-entry-at-requires-3
-entry-at-requires-3 c κs = search needs
-
-decide-requires : tie.Need-decide-requires
-decide-requires c κs = search needs
 
 returns-4 : tie.Need-returns-4
 returns-4 c =
@@ -78,12 +57,6 @@ returns-4 c =
     (rooted (c .before .before .before .before .before .before)) on (d .result .node) (d .result .probes) (first .result) (end .result)
     (d .ensures .node-is) (d .ensures .probes-is) (first .ensures) (end .ensures)
 
-delimiter-at-requires : tie.Need-delimiter-at-requires
-delimiter-at-requires c κs = search needs
-
-tell-requires : tie.Need-tell-requires
-tell-requires c κs = search needs
-
 returns-5 : tie.Need-returns-5
 returns-5 c =
     let p = c .before .before .before .before .before .before .before .before .before in
@@ -93,9 +66,6 @@ returns-5 c =
     c .tell .ensures
     ∙ says-low T (a .handles .now) (a .left .now) (a .right .now) (a .seed3) (a .x) (two p) (p .entry-at .result) (p .entry-at .ensures)
     (rooted (c .before .before .before .before .before)) off (omega arith)
-
-tell-requires-2 : tie.Need-tell-requires-2
-tell-requires-2 c κs = search needs
 
 returns-6 : tie.Need-returns-6
 returns-6 c =
@@ -112,19 +82,19 @@ pub walk-splits-spec : {M : Type 1} → statement M
 walk-splits-spec =
     tie.close
     (tie.spec
-    entry-at-requires
+    (λ c κs. search needs)
     returns
     returns-2
-    len-at-requires
+    (λ c κs. search needs)
     returns-3
-    on-path-requires
-    descend-requires
-    entry-at-requires-2
-    entry-at-requires-3
-    decide-requires
+    (λ c κs. search needs)
+    (λ c κs. search needs)
+    (λ c κs. search needs)
+    (λ c κs. search needs)
+    (λ c κs. search needs)
     returns-4
-    delimiter-at-requires
-    tell-requires
+    (λ c κs. search needs)
+    (λ c κs. search needs)
     returns-5
-    tell-requires-2
+    (λ c κs. search needs)
     returns-6)

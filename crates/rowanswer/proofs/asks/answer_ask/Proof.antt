@@ -27,15 +27,6 @@ lines-said k call e =
     ask-said (a .keys .now) (a .b) (a .seed) (a .cells .now) (a .handles .now) (a .left .now) (a .right .now) (start p .pre) (a .x)
     (found .0 .0) call (rw (found .1) at (p .neighbour-ask .ensures)) (rw e (k .call-ask .ensures))
 
-neighbour-ask-requires : tie.Need-neighbour-ask-requires
-neighbour-ask-requires c κs = search needs
-
-enum-known-place : tie.Need-enum-known-place
-enum-known-place c = search needs
-
-enum-told : tie.Need-enum-told
-enum-told c = search needs
-
 returns : tie.Need-returns
 returns c =
     let p = c .before .before in
@@ -44,35 +35,11 @@ returns c =
     (neighbour-refused (a .keys .now) (a .b) (a .seed) (a .cells .now) (a .handles .now) (a .left .now) (a .right .now) (start p .pre) (a .x)
     (c .enum-told .given .0 .0) (rw (c .enum-told .given .1) at (p .neighbour-ask .ensures)))
 
-call-ask-requires : tie.Need-call-ask-requires
-call-ask-requires c κs = search needs
-
-enum-known-row : tie.Need-enum-known-row
-enum-known-row c = search needs
-
-write-ask-requires : tie.Need-write-ask-requires
-write-ask-requires c κs = search needs
-
-enum-told-2 : tie.Need-enum-told-2
-enum-told-2 c = search needs
-
-write-ask-requires-2 : tie.Need-write-ask-requires-2
-write-ask-requires-2 c κs = search needs
-
-enum-told-3 : tie.Need-enum-told-3
-enum-told-3 c = search needs
-
-same-length : tie.Need-same-length
-same-length c = search needs
-
 returns-2 : tie.Need-returns-2
 returns-2 c =
     let w = c .before .before in
     let q = w .before .before .before in
     rw (lines-said (q .before .before) (Row (q .row .given .0 .0)) (ap saidByCall (sym (q .row .given .1)))) (w .write-ask .ensures)
-
-same-length-2 : tie.Need-same-length-2
-same-length-2 c = search needs
 
 returns-3 : tie.Need-returns-3
 returns-3 c =
@@ -93,18 +60,18 @@ pub answer-ask-spec : {M : Type 1} → statement M
 answer-ask-spec =
     tie.close
     (tie.spec
-    neighbour-ask-requires
-    enum-known-place
-    enum-told
+    (λ c κs. search needs)
+    (λ c. search needs)
+    (λ c. search needs)
     returns
-    call-ask-requires
-    enum-known-row
-    write-ask-requires
-    enum-told-2
-    write-ask-requires-2
-    enum-told-3
-    same-length
+    (λ c κs. search needs)
+    (λ c. search needs)
+    (λ c κs. search needs)
+    (λ c. search needs)
+    (λ c κs. search needs)
+    (λ c. search needs)
+    (λ c. search needs)
     returns-2
-    same-length-2
+    (λ c. search needs)
     returns-3
     returns-4)

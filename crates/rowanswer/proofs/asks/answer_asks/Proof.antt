@@ -40,20 +40,8 @@ loop-holds c =
     let a = c .before .before .before .before .before .before .before .before .args in
     (omega arith, put-start (askLines (a .keys .now)) (a .asks .now) (a .out .now) (a .i) (omega arith))
 
-mul-answer-ask : tie.Need-mul-answer-ask Inv-loop μ-loop
-mul-answer-ask c = search needs
-
-shared-slice-read-answer-ask : tie.Need-shared-slice-read-answer-ask Inv-loop μ-loop
-shared-slice-read-answer-ask c = search needs
-
 answer-ask-requires : tie.Need-answer-ask-requires Inv-loop μ-loop
 answer-ask-requires c κs = start (c .before .before .before) .pre
-
-enum-known-j : tie.Need-enum-known-j Inv-loop μ-loop
-enum-known-j c = search needs
-
-enum-told : tie.Need-enum-told Inv-loop μ-loop
-enum-told c = search needs
 
 same-length : tie.Need-same-length Inv-loop μ-loop
 same-length c =
@@ -72,12 +60,6 @@ returns-2 c =
     let l = p .loop in
     next-off (askLines (a .keys .now)) (a .asks .now) (a .out .now) (a .i) (l .k) (l .at) (l .out) (omega arith) (l .inv .1) (after w)
     (rw (c .enum-told .given .1) at (w .answer-ask .ensures))
-
-add-k : tie.Need-add-k Inv-loop μ-loop
-add-k c = search needs
-
-loop-less : tie.Need-loop-less Inv-loop μ-loop
-loop-less c = search needs
 
 loop-again : tie.Need-loop-again Inv-loop μ-loop
 loop-again c =
@@ -110,15 +92,15 @@ answer-asks-spec =
     μ-loop
     returns
     loop-holds
-    mul-answer-ask
-    shared-slice-read-answer-ask
+    (λ c. search needs)
+    (λ c. search needs)
     answer-ask-requires
-    enum-known-j
-    enum-told
+    (λ c. search needs)
+    (λ c. search needs)
     same-length
     returns-2
-    add-k
-    loop-less
+    (λ c. search needs)
+    (λ c. search needs)
     loop-again
     same-length-2
     returns-3)

@@ -4,12 +4,6 @@ use Rattle.rowanswer.proofs.Showing.{shown-counts}
 use Rattle.rowanswer.proofs.run.answer.Statement.{statement}
 use Rattle.rowanswer.proofs.run.answer.Tie as tie
 
-answer-lent-requires : tie.Need-answer-lent-requires
-answer-lent-requires c κs = search needs
-
-same-length : tie.Need-same-length
-same-length c = search needs
-
 returns : tie.Need-returns
 returns c =
     let a = c .before .before in
@@ -18,4 +12,4 @@ returns c =
     (shown-counts (S .0) (s .args .out .now) (a .answer-lent .last .1 .1 .1 .0) (a .answer-lent .result) (S .1 .1), S)
 
 pub answer-spec : {M : Type 1} → statement M
-answer-spec = tie.close (tie.spec answer-lent-requires same-length returns)
+answer-spec = tie.close (tie.spec (λ c κs. search needs) (λ c. search needs) returns)

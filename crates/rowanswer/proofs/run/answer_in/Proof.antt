@@ -14,23 +14,11 @@ first-seed-requires c κs =
     rowed-lent (s .args .keys .now) (s .args .b) (s .args .cells .now) (s .args .handles .now) (s .args .left .now) (s .args .right .now) (s .args .work .now)
     (s .pre) (search needs) (search needs) (search needs) (search needs) (search needs)
 
-enum-known-seed : tie.Need-enum-known-seed
-enum-known-seed c = search needs
-
 print-answers-requires : tie.Need-print-answers-requires
 unfolding Chose
 print-answers-requires c κs =
     let f = c .before .before .before .before .before .before .before .before .before .before .before .before in
     (rw (c .before .before .before .before .before .before .before .before .before .before .seed .given .1) at (f .first-seed .ensures)) .3
-
-enum-told : tie.Need-enum-told
-enum-told c = search needs
-
-refuse-requires : tie.Need-refuse-requires
-refuse-requires c κs = search needs
-
-same-length : tie.Need-same-length
-same-length c = search needs
 
 returns : tie.Need-returns
 unfolding Chose
@@ -41,9 +29,6 @@ returns c =
       answered (s .args .keys .now) (s .args .asks .now),
       (answers (s .pre .two) (s .pre .most) (s .pre .table) _ (chose .0) (chose .2) refl, c .before .before .print-answers .ensures),
     )
-
-same-length-2 : tie.Need-same-length-2
-same-length-2 c = search needs
 
 returns-2 : tie.Need-returns-2
 unfolding Chose
@@ -58,11 +43,11 @@ answer-in-spec =
     tie.close
     (tie.spec
     first-seed-requires
-    enum-known-seed
+    (λ c. search needs)
     print-answers-requires
-    enum-told
-    refuse-requires
-    same-length
+    (λ c. search needs)
+    (λ c κs. search needs)
+    (λ c. search needs)
     returns
-    same-length-2
+    (λ c. search needs)
     returns-2)

@@ -39,12 +39,6 @@ holds k =
     taken-holds (start k .args .input .now) (start k .args .keys .now) (start k .args .asks .now) (keys′ k) (asks′ k) (read k .read-input .result) (bucket k) (rows k) (lines k)
     (k .before .bucket .given .1) (read k .read-input .ensures)
 
-read-input-requires : tie.Need-read-input-requires
-read-input-requires c κs = search needs
-
-enum-known-bucket : tie.Need-enum-known-bucket
-enum-known-bucket c = search needs
-
 slice-reshare-prefix-answer-table : tie.Need-slice-reshare-prefix-answer-table
 slice-reshare-prefix-answer-table c =
     let H = holds c in start-within (rows c) (H .ks) (start c .args .keys .now) (keys′ c) (H .keyCount) (H .keysHold)
@@ -69,36 +63,12 @@ answer-table-requires c κs =
     let k = c .before .before .before in
     keys-few (start k .args .input .now) (start k .args .keys .now) (start k .args .asks .now) (keys′ k) (asks′ k) (start k .pre .0) (start k .pre .1) (bucket k) (rows k) (lines k) (holds k)
 
-enum-told : tie.Need-enum-told
-enum-told c = search needs
-
-refuse-requires : tie.Need-refuse-requires
-refuse-requires c κs = search needs
-
-same-length : tie.Need-same-length
-same-length c = search needs
-
-same-length-2 : tie.Need-same-length-2
-same-length-2 c = search needs
-
-same-length-3 : tie.Need-same-length-3
-same-length-3 c = search needs
-
 returns : tie.Need-returns
 returns c =
     let t = c .before .before in
     let k = t .before .before .before .before in
     read-shows (start k .args .input .now) (start k .args .keys .now) (start k .args .asks .now) (keys′ k) (asks′ k) (start k .pre .0) (start k .pre .1) (bucket k) (rows k) (lines k) (holds k)
     (start k .args .out .now) (t .answer-table .result) (t .answer-table .last .1 .1 .1 .0) (t .answer-table .ensures)
-
-same-length-4 : tie.Need-same-length-4
-same-length-4 c = search needs
-
-same-length-5 : tie.Need-same-length-5
-same-length-5 c = search needs
-
-same-length-6 : tie.Need-same-length-6
-same-length-6 c = search needs
 
 returns-2 : tie.Need-returns-2
 returns-2 c =
@@ -114,20 +84,20 @@ pub answer-read-spec : {M : Type 1} → statement M
 answer-read-spec =
     tie.close
     (tie.spec
-    read-input-requires
-    enum-known-bucket
+    (λ c κs. search needs)
+    (λ c. search needs)
     slice-reshare-prefix-answer-table
     slice-aggregate-answer-table
     slice-reshare-prefix-answer-table-2
     slice-aggregate-answer-table-2
     answer-table-requires
-    enum-told
-    refuse-requires
-    same-length
-    same-length-2
-    same-length-3
+    (λ c. search needs)
+    (λ c κs. search needs)
+    (λ c. search needs)
+    (λ c. search needs)
+    (λ c. search needs)
     returns
-    same-length-4
-    same-length-5
-    same-length-6
+    (λ c. search needs)
+    (λ c. search needs)
+    (λ c. search needs)
     returns-2)

@@ -8,32 +8,11 @@ use Rattle.rowanswer.specs.Answers.{refusedText, bucketSize, falls}
 use Rattle.rowanswer.proofs.run.answer_table.Statement.{statement}
 use Rattle.rowanswer.proofs.run.answer_table.Tie as tie
 
-refuse-requires : tie.Need-refuse-requires
-refuse-requires c κs = search needs
-
-same-length : tie.Need-same-length
-same-length c = search needs
-
 returns : tie.Need-returns
 returns c = (refusedText 2, (bucketSize (inl (c .before .before .before .before .if1 .taken)) refl, c .before .before .refuse .ensures))
 
-refuse-requires-2 : tie.Need-refuse-requires-2
-refuse-requires-2 c κs = search needs
-
-same-length-2 : tie.Need-same-length-2
-same-length-2 c = search needs
-
 returns-2 : tie.Need-returns-2
 returns-2 c = (refusedText 2, (bucketSize (inr (c .before .before .before .before .if2 .taken)) refl, c .before .before .refuse2 .ensures))
-
-first-fall-requires : tie.Need-first-fall-requires
-first-fall-requires c κs = search needs
-
-refuse-requires-3 : tie.Need-refuse-requires-3
-refuse-requires-3 c κs = search needs
-
-same-length-3 : tie.Need-same-length-3
-same-length-3 c = search needs
 
 returns-3 : tie.Need-returns-3
 returns-3 c =
@@ -59,26 +38,20 @@ answer-seeds-requires c κs =
       few = s .pre;
     }
 
-same-length-4 : tie.Need-same-length-4
-same-length-4 c = search needs
-
-returns-4 : tie.Need-returns-4
-returns-4 c = search needs
-
 pub answer-table-spec : {M : Type 1} → statement M
 answer-table-spec =
     tie.close
     (tie.spec
-    refuse-requires
-    same-length
+    (λ c κs. search needs)
+    (λ c. search needs)
     returns
-    refuse-requires-2
-    same-length-2
+    (λ c κs. search needs)
+    (λ c. search needs)
     returns-2
-    first-fall-requires
-    refuse-requires-3
-    same-length-3
+    (λ c κs. search needs)
+    (λ c κs. search needs)
+    (λ c. search needs)
     returns-3
     answer-seeds-requires
-    same-length-4
-    returns-4)
+    (λ c. search needs)
+    (λ c. search needs))

@@ -6,15 +6,6 @@ use Rattle.rowanswer.proofs.Showing.{writes-shown}
 use Rattle.rowanswer.proofs.run.refuse.Statement.{statement}
 use Rattle.rowanswer.proofs.run.refuse.Tie as tie
 
-write-refusal-requires : tie.Need-write-refusal-requires
-write-refusal-requires c κs = search needs
-
-or-requires : tie.Need-or-requires
-or-requires c κs = search needs
-
-same-length : tie.Need-same-length
-same-length c = search needs
-
 returns : tie.Need-returns
 returns c =
     let w = c .before .before .before in
@@ -23,4 +14,4 @@ returns c =
     (w .write-refusal .kept .0) (w .write-refusal .ensures) (c .or .ensures)
 
 pub refuse-spec : {M : Type 1} → statement M
-refuse-spec = tie.close (tie.spec write-refusal-requires or-requires same-length returns)
+refuse-spec = tie.close (tie.spec (λ c κs. search needs) (λ c κs. search needs) (λ c. search needs) returns)

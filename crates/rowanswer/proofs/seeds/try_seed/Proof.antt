@@ -8,51 +8,12 @@ use Rattle.rowanswer.proofs.Seeding.{call-passes, neighbour-passes, cal
 use Rattle.rowanswer.proofs.seeds.try_seed.Statement.{statement}
 use Rattle.rowanswer.proofs.seeds.try_seed.Tie as tie
 
-call-build-requires : tie.Need-call-build-requires
-call-build-requires c κs = search needs
-
-enum-told : tie.Need-enum-told
-enum-told c = search needs
-
-enum-told-2 : tie.Need-enum-told-2
-enum-told-2 c = search needs
-
-same-length : tie.Need-same-length
-same-length c = search needs
-
-same-length-2 : tie.Need-same-length-2
-same-length-2 c = search needs
-
 returns : tie.Need-returns
 unfolding Tried
 returns c =
     let m = c .before .before .before .before .before .before in
     let s = m .before .before .before .before .before .before .before .before .before in
     call-jam (s .args .keys .now) (s .args .b) (s .args .seed) (s .args .cells .now) (s .args .work .now) _ _ (m .call-build .last .1 .1 .1 .1 .0) (m .call-build .last .1 .1 .1 .1 .1 .0) (rw (c .enum-told2 .given .1) at (m .call-build .ensures)) (call-passes (s .pre))
-
-neighbour-build-requires : tie.Need-neighbour-build-requires
-neighbour-build-requires c κs = search needs
-
-enum-told-3 : tie.Need-enum-told-3
-enum-told-3 c = search needs
-
-enum-told-4 : tie.Need-enum-told-4
-enum-told-4 c = search needs
-
-same-length-3 : tie.Need-same-length-3
-same-length-3 c = search needs
-
-same-length-4 : tie.Need-same-length-4
-same-length-4 c = search needs
-
-same-length-5 : tie.Need-same-length-5
-same-length-5 c = search needs
-
-same-length-6 : tie.Need-same-length-6
-same-length-6 c = search needs
-
-same-length-7 : tie.Need-same-length-7
-same-length-7 c = search needs
 
 returns-2 : tie.Need-returns-2
 unfolding Tried
@@ -68,21 +29,6 @@ returns-2 c =
       answering (s .args .keys .now) (s .pre .table) (s .args .b) (s .args .seed) (s .args .cells .now) (s .args .work .now) (m .call-build .last .1 .1 .1 .1 .0) (m .call-build .last .1 .1 .1 .1 .1 .0) B (s .args .handles .now) (s .args .left .now) (s .args .right .now) (m .call-build .last .1 .1 .1 .1 .1 .0) (q .neighbour-build .last .1 .1 .0) (q .neighbour-build .last .1 .1 .1 .0) (q .neighbour-build .last .1 .1 .1 .1 .0) (q .neighbour-build .last .1 .1 .1 .1 .1 .0) C,
     )
 
-same-length-8 : tie.Need-same-length-8
-same-length-8 c = search needs
-
-same-length-9 : tie.Need-same-length-9
-same-length-9 c = search needs
-
-same-length-10 : tie.Need-same-length-10
-same-length-10 c = search needs
-
-same-length-11 : tie.Need-same-length-11
-same-length-11 c = search needs
-
-same-length-12 : tie.Need-same-length-12
-same-length-12 c = search needs
-
 returns-3 : tie.Need-returns-3
 unfolding Tried
 returns-3 c =
@@ -96,24 +42,24 @@ pub try-seed-spec : {M : Type 1} → statement M
 try-seed-spec =
     tie.close
     (tie.spec
-    call-build-requires
-    enum-told
-    enum-told-2
-    same-length
-    same-length-2
+    (λ c κs. search needs)
+    (λ c. search needs)
+    (λ c. search needs)
+    (λ c. search needs)
+    (λ c. search needs)
     returns
-    neighbour-build-requires
-    enum-told-3
-    enum-told-4
-    same-length-3
-    same-length-4
-    same-length-5
-    same-length-6
-    same-length-7
+    (λ c κs. search needs)
+    (λ c. search needs)
+    (λ c. search needs)
+    (λ c. search needs)
+    (λ c. search needs)
+    (λ c. search needs)
+    (λ c. search needs)
+    (λ c. search needs)
     returns-2
-    same-length-8
-    same-length-9
-    same-length-10
-    same-length-11
-    same-length-12
+    (λ c. search needs)
+    (λ c. search needs)
+    (λ c. search needs)
+    (λ c. search needs)
+    (λ c. search needs)
     returns-3)

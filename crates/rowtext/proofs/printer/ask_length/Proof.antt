@@ -5,32 +5,11 @@ use Rattle.rowtext.proofs.Printing.{ask-size}
 use Rattle.rowtext.proofs.printer.ask_length.Statement.{statement}
 use Rattle.rowtext.proofs.printer.ask_length.Tie as tie
 
-slice-aggregate-line-length : tie.Need-slice-aggregate-line-length
-slice-aggregate-line-length c = search needs
-
-line-length-requires : tie.Need-line-length-requires
-line-length-requires c κs = search needs
-
-call-length-requires : tie.Need-call-length-requires
-call-length-requires c κs = search needs
-
 add-result : tie.Need-add-result
 add-result c = omega arith
 
-slice-aggregate-line-length-2 : tie.Need-slice-aggregate-line-length-2
-slice-aggregate-line-length-2 c = search needs
-
-line-length-requires-2 : tie.Need-line-length-requires-2
-line-length-requires-2 c κs = search needs
-
 add-result-2 : tie.Need-add-result-2
 add-result-2 c = omega arith
-
-slice-aggregate-line-length-3 : tie.Need-slice-aggregate-line-length-3
-slice-aggregate-line-length-3 c = search needs
-
-line-length-requires-3 : tie.Need-line-length-requires-3
-line-length-requires-3 c κs = search needs
 
 add-result-3 : tie.Need-add-result-3
 add-result-3 c = omega arith
@@ -51,14 +30,14 @@ pub ask-length-spec : {M : Type 1} → statement M
 ask-length-spec =
     tie.close
     (tie.spec
-    slice-aggregate-line-length
-    line-length-requires
-    call-length-requires
+    (λ c. search needs)
+    (λ c κs. search needs)
+    (λ c κs. search needs)
     add-result
-    slice-aggregate-line-length-2
-    line-length-requires-2
+    (λ c. search needs)
+    (λ c κs. search needs)
     add-result-2
-    slice-aggregate-line-length-3
-    line-length-requires-3
+    (λ c. search needs)
+    (λ c κs. search needs)
     add-result-3
     returns)

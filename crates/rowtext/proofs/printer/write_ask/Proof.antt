@@ -19,50 +19,11 @@ returns c =
     let a = c .before .before .args in
     writes-off (askText (a .x) (a .call) (a .before) (a .probes)) (a .out .now) (a .i) (omega arith)
 
-sub-if2 : tie.Need-sub-if2
-sub-if2 c = search needs
-
-ask-length-requires : tie.Need-ask-length-requires
-ask-length-requires c κs = search needs
-
 returns-2 : tie.Need-returns-2
 returns-2 c =
     let a = c .before .before .before .before .args in
     let n = c .before .ask-length .ensures in
     writes-off (askText (a .x) (a .call) (a .before) (a .probes)) (a .out .now) (a .i) (omega arith)
-
-slice-aggregate-write-line : tie.Need-slice-aggregate-write-line
-slice-aggregate-write-line c = search needs
-
-write-line-requires : tie.Need-write-line-requires
-write-line-requires c κs = search needs
-
-or-requires : tie.Need-or-requires
-or-requires c κs = search needs
-
-write-call-requires : tie.Need-write-call-requires
-write-call-requires c κs = search needs
-
-or-requires-2 : tie.Need-or-requires-2
-or-requires-2 c κs = search needs
-
-slice-aggregate-write-line-2 : tie.Need-slice-aggregate-write-line-2
-slice-aggregate-write-line-2 c = search needs
-
-write-line-requires-2 : tie.Need-write-line-requires-2
-write-line-requires-2 c κs = search needs
-
-or-requires-3 : tie.Need-or-requires-3
-or-requires-3 c κs = search needs
-
-slice-aggregate-write-line-3 : tie.Need-slice-aggregate-write-line-3
-slice-aggregate-write-line-3 c = search needs
-
-write-line-requires-3 : tie.Need-write-line-requires-3
-write-line-requires-3 c κs = search needs
-
-same-length : tie.Need-same-length
-same-length c = search needs
 
 returns-3 : tie.Need-returns-3
 returns-3 c =
@@ -87,18 +48,18 @@ write-ask-spec =
     tie.close
     (tie.spec
     returns
-    sub-if2
-    ask-length-requires
+    (λ c. search needs)
+    (λ c κs. search needs)
     returns-2
-    slice-aggregate-write-line
-    write-line-requires
-    or-requires
-    write-call-requires
-    or-requires-2
-    slice-aggregate-write-line-2
-    write-line-requires-2
-    or-requires-3
-    slice-aggregate-write-line-3
-    write-line-requires-3
-    same-length
+    (λ c. search needs)
+    (λ c κs. search needs)
+    (λ c κs. search needs)
+    (λ c κs. search needs)
+    (λ c κs. search needs)
+    (λ c. search needs)
+    (λ c κs. search needs)
+    (λ c κs. search needs)
+    (λ c. search needs)
+    (λ c κs. search needs)
+    (λ c. search needs)
     returns-3)

@@ -8,29 +8,11 @@ use Rattle.rowtext.proofs.reader.list_at.Tie as tie
 abbrev start : tie.After-read-line → tie.Start
 start p = p .before .before .before .before
 
-read-line-requires : tie.Need-read-line-requires
-read-line-requires c κs = search needs
-
-enum-known-value : tie.Need-enum-known-value
-enum-known-value c = search needs
-
-enum-told : tie.Need-enum-told
-enum-told c = search needs
-
 returns : tie.Need-returns
 returns c =
     let p = c .before .before in
     let a = start p .args in
     list-headless (a .most) (a .head .now) (a .tag .now) (a .s .now) (a .i) (rw (c .enum-told .given .1) at (p .read-line .ensures))
-
-lines-end-requires : tie.Need-lines-end-requires
-lines-end-requires c κs = search needs
-
-enum-known-end : tie.Need-enum-known-end
-enum-known-end c = search needs
-
-enum-told-2 : tie.Need-enum-told-2
-enum-told-2 c = search needs
 
 returns-2 : tie.Need-returns-2
 returns-2 c =
@@ -55,12 +37,12 @@ pub list-at-spec : {M : Type 1} → statement M
 list-at-spec =
     tie.close
     (tie.spec
-    read-line-requires
-    enum-known-value
-    enum-told
+    (λ c κs. search needs)
+    (λ c. search needs)
+    (λ c. search needs)
     returns
-    lines-end-requires
-    enum-known-end
-    enum-told-2
+    (λ c κs. search needs)
+    (λ c. search needs)
+    (λ c. search needs)
     returns-2
     returns-3)

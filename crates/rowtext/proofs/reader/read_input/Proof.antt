@@ -45,18 +45,6 @@ asks-read : (c : tie.After-m) → let k = at-keys c in let f = start (at-bucket 
     Lists (most-asks f) (bytes "asks=") (bytes "ask=") (f .args .s .now) (k .n .given .0 .1 .1 .0) (Lines (g .0) (g .1 .0) (g .1 .1 .0))
 asks-read c = rw (c .m .given .1, c .before .before .before .least2 .ensures) at (c .before .before .list-at2 .ensures)
 
-slice-aggregate-read-line : tie.Need-slice-aggregate-read-line
-slice-aggregate-read-line c = search needs
-
-read-line-requires : tie.Need-read-line-requires
-read-line-requires c κs = search needs
-
-enum-known-bucket : tie.Need-enum-known-bucket
-enum-known-bucket c = search needs
-
-enum-told : tie.Need-enum-told
-enum-told c = search needs
-
 returns : tie.Need-returns
 unfolding ReadsInput
 returns c =
@@ -64,24 +52,6 @@ returns c =
     let f = start p in
     let no = no-bucket (most-keys f) (most-asks f) (f .args .s .now) (rw (c .enum-told .given .1) at (p .read-line .ensures)) in
     (refl, no, refl, refl)
-
-slice-aggregate-list-at : tie.Need-slice-aggregate-list-at
-slice-aggregate-list-at c = search needs
-
-slice-aggregate-list-at-2 : tie.Need-slice-aggregate-list-at-2
-slice-aggregate-list-at-2 c = search needs
-
-least-requires : tie.Need-least-requires
-least-requires c κs = search needs
-
-list-at-requires : tie.Need-list-at-requires
-list-at-requires c κs = search needs
-
-enum-known-n : tie.Need-enum-known-n
-enum-known-n c = search needs
-
-enum-told-2 : tie.Need-enum-told-2
-enum-told-2 c = search needs
 
 returns-2 : tie.Need-returns-2
 unfolding ReadsInput
@@ -92,24 +62,6 @@ returns-2 c =
     let b1 = b .bucket .given .0 in
     let none = rw (c .enum-told2 .given .1, p .before .least .ensures) at (p .list-at .ensures) in
     (refl, no-keys (most-keys f) (most-asks f) (f .args .s .now) (b1 .0) (b1 .1 .0) (bucket-read b) none, refl, refl)
-
-slice-aggregate-list-at-3 : tie.Need-slice-aggregate-list-at-3
-slice-aggregate-list-at-3 c = search needs
-
-slice-aggregate-list-at-4 : tie.Need-slice-aggregate-list-at-4
-slice-aggregate-list-at-4 c = search needs
-
-least-requires-2 : tie.Need-least-requires-2
-least-requires-2 c κs = search needs
-
-list-at-requires-2 : tie.Need-list-at-requires-2
-list-at-requires-2 c κs = search needs
-
-enum-known-m : tie.Need-enum-known-m
-enum-known-m c = search needs
-
-enum-told-3 : tie.Need-enum-told-3
-enum-told-3 c = search needs
 
 returns-3 : tie.Need-returns-3
 unfolding ReadsInput
@@ -139,24 +91,6 @@ returns-4 c =
     (k1 .0) (k1 .1 .0) (k1 .1 .1 .0) (keys-read k) (m1 .0) (m1 .1 .0) (m1 .1 .1 .0) (asks-read m) (c .if1 .taken) in
     (refl, no, refl, refl)
 
-slice-aggregate-load-u64 : tie.Need-slice-aggregate-load-u64
-slice-aggregate-load-u64 c = search needs
-
-load-u64-requires : tie.Need-load-u64-requires
-load-u64-requires c κs = search needs
-
-slice-aggregate-load-u64-2 : tie.Need-slice-aggregate-load-u64-2
-slice-aggregate-load-u64-2 c = search needs
-
-load-u64-requires-2 : tie.Need-load-u64-requires-2
-load-u64-requires-2 c κs = search needs
-
-same-length : tie.Need-same-length
-same-length c = search needs
-
-same-length-2 : tie.Need-same-length-2
-same-length-2 c = search needs
-
 returns-5 : tie.Need-returns-5
 unfolding ReadsInput
 returns-5 c =
@@ -180,30 +114,30 @@ pub read-input-spec : {M : Type 1} → statement M
 read-input-spec =
     tie.close
     (tie.spec
-    slice-aggregate-read-line
-    read-line-requires
-    enum-known-bucket
-    enum-told
+    (λ c. search needs)
+    (λ c κs. search needs)
+    (λ c. search needs)
+    (λ c. search needs)
     returns
-    slice-aggregate-list-at
-    slice-aggregate-list-at-2
-    least-requires
-    list-at-requires
-    enum-known-n
-    enum-told-2
+    (λ c. search needs)
+    (λ c. search needs)
+    (λ c κs. search needs)
+    (λ c κs. search needs)
+    (λ c. search needs)
+    (λ c. search needs)
     returns-2
-    slice-aggregate-list-at-3
-    slice-aggregate-list-at-4
-    least-requires-2
-    list-at-requires-2
-    enum-known-m
-    enum-told-3
+    (λ c. search needs)
+    (λ c. search needs)
+    (λ c κs. search needs)
+    (λ c κs. search needs)
+    (λ c. search needs)
+    (λ c. search needs)
     returns-3
     returns-4
-    slice-aggregate-load-u64
-    load-u64-requires
-    slice-aggregate-load-u64-2
-    load-u64-requires-2
-    same-length
-    same-length-2
+    (λ c. search needs)
+    (λ c κs. search needs)
+    (λ c. search needs)
+    (λ c κs. search needs)
+    (λ c. search needs)
+    (λ c. search needs)
     returns-5)

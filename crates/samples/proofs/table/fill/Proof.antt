@@ -13,32 +13,11 @@ Inv-loop sample keys₀ i₀ keys i = length keys ≡ length keys₀
 abbrev μ-loop : tie.MeasureT-loop
 μ-loop sample keys₀ i₀ keys i = length keys₀ - i
 
-loop-holds : tie.Need-loop-holds Inv-loop μ-loop
-loop-holds c = search needs
-
-key-at-requires : tie.Need-key-at-requires Inv-loop μ-loop
-key-at-requires c κs = search needs
-
-mul-keys : tie.Need-mul-keys Inv-loop μ-loop
-mul-keys c = search needs
-
 slice-write-keys : tie.Need-slice-write-keys Inv-loop μ-loop
 slice-write-keys c = omega arith
 
-add-i : tie.Need-add-i Inv-loop μ-loop
-add-i c = search needs
-
 loop-less : tie.Need-loop-less Inv-loop μ-loop
 loop-less c = omega arith
-
-loop-again : tie.Need-loop-again Inv-loop μ-loop
-loop-again c = search needs
-
-same-length : tie.Need-same-length Inv-loop μ-loop
-same-length c = search needs
-
-returns : tie.Need-returns Inv-loop μ-loop
-returns c = search needs
 
 pub fill-spec : {M : Type 1} → statement M
 fill-spec =
@@ -46,12 +25,12 @@ fill-spec =
     (tie.spec
     Inv-loop
     μ-loop
-    loop-holds
-    key-at-requires
-    mul-keys
+    (λ c. search needs)
+    (λ c κs. search needs)
+    (λ c. search needs)
     slice-write-keys
-    add-i
+    (λ c. search needs)
     loop-less
-    loop-again
-    same-length
-    returns)
+    (λ c. search needs)
+    (λ c. search needs)
+    (λ c. search needs))

@@ -10,38 +10,11 @@ use borrow.Author.Needs.{needs}
 use Rattle.splits.proofs.bounds.build_bounds.Statement.{statement}
 use Rattle.splits.proofs.bounds.build_bounds.Tie as tie
 
-delimiter-count-requires : tie.Need-delimiter-count-requires
-delimiter-count-requires c κs = search needs
-
 returns : tie.Need-returns
 returns c =
     let a = c .before .before .before .before .before .args in
     let T = delimiters (a .b) (a .keys .now) in
     (wrote-nothing (length T) (leftEntry T) (a .left .now) (omega arith), wrote-nothing (length T) (rightEntry T) (a .right .now) (omega arith))
-
-fill-left-requires : tie.Need-fill-left-requires
-fill-left-requires c κs = search needs
-
-fill-right-requires : tie.Need-fill-right-requires
-fill-right-requires c κs = search needs
-
-root-of-requires : tie.Need-root-of-requires
-root-of-requires c κs = search needs
-
-cast-left : tie.Need-cast-left
-cast-left c = search needs
-
-slice-write-left : tie.Need-slice-write-left
-slice-write-left c = search needs
-
-slice-write-right : tie.Need-slice-write-right
-slice-write-right c = search needs
-
-same-length : tie.Need-same-length
-same-length c = search needs
-
-same-length-2 : tie.Need-same-length-2
-same-length-2 c = search needs
 
 returns-2 : tie.Need-returns-2
 returns-2 c =
@@ -61,14 +34,14 @@ pub build-bounds-spec : {M : Type 1} → statement M
 build-bounds-spec =
     tie.close
     (tie.spec
-    delimiter-count-requires
+    (λ c κs. search needs)
     returns
-    fill-left-requires
-    fill-right-requires
-    root-of-requires
-    cast-left
-    slice-write-left
-    slice-write-right
-    same-length
-    same-length-2
+    (λ c κs. search needs)
+    (λ c κs. search needs)
+    (λ c κs. search needs)
+    (λ c. search needs)
+    (λ c. search needs)
+    (λ c. search needs)
+    (λ c. search needs)
+    (λ c. search needs)
     returns-2)

@@ -13,13 +13,10 @@ returns c =
     let a = c .before .before .args in
     rw (le-leb 1 (a .j) (omega arith), le-ltb (a .j) (length (delimiters (a .b) (a .keys .now))) (omega arith))
 
-len-at-requires : tie.Need-len-at-requires
-len-at-requires c κs = search needs
-
 returns-2 : tie.Need-returns-2
 returns-2 c =
     let a = c .before .before .before .args in
     rw (c .len-at .ensures) (goes-last (delimiters (a .b) (a .keys .now)) (a .j) (a .l) (omega arith) (omega arith))
 
 pub goes-on-right-spec : {M : Type 1} → statement M
-goes-on-right-spec = tie.close (tie.spec returns len-at-requires returns-2)
+goes-on-right-spec = tie.close (tie.spec returns (λ c κs. search needs) returns-2)

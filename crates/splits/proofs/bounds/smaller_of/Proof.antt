@@ -8,9 +8,6 @@ use borrow.Author.Needs.{needs}
 use Rattle.splits.proofs.bounds.smaller_of.Statement.{statement}
 use Rattle.splits.proofs.bounds.smaller_of.Tie as tie
 
-len-at-requires : tie.Need-len-at-requires
-len-at-requires c κs = search needs
-
 returns : tie.Need-returns
 returns c =
     let s = c .before .before .before .before in
@@ -29,4 +26,4 @@ returns-2 c =
     (smaller-kept T (s .args .s .split) (s .args .m) (rw (c .before .before .len-at .ensures, s .pre .1) at (c .if1 .left)), s .pre .1, omega arith)
 
 pub smaller-of-spec : {M : Type 1} → statement M
-smaller-of-spec = tie.close (tie.spec len-at-requires returns returns-2)
+smaller-of-spec = tie.close (tie.spec (λ c κs. search needs) returns returns-2)

@@ -9,18 +9,6 @@ use borrow.Author.Needs.{needs}
 use Rattle.splits.proofs.split.handle_item.Statement.{statement}
 use Rattle.splits.proofs.split.handle_item.Tie as tie
 
-len-at-requires : tie.Need-len-at-requires
-len-at-requires c κs = search needs
-
-parent-len-requires : tie.Need-parent-len-requires
-parent-len-requires c κs = search needs
-
-cast-fattest : tie.Need-cast-fattest
-cast-fattest c = search needs
-
-cast-fattest-2 : tie.Need-cast-fattest-2
-cast-fattest-2 c = search needs
-
 fattest-requires : tie.Need-fattest-requires
 fattest-requires c κs =
     let s = c .before .before .before .before .before in
@@ -32,12 +20,6 @@ fattest-requires c κs =
       parent-shorter T table (s .args .m) (split .pos) (split .small) (s .pre .1),
       len-lt T table (s .args .m) (split .pos) (split .small),
     )
-
-cast-f : tie.Need-cast-f
-cast-f c = search needs
-
-delimiter-at-requires : tie.Need-delimiter-at-requires
-delimiter-at-requires c κs = search needs
 
 prefix-item-requires : tie.Need-prefix-item-requires
 prefix-item-requires c κs =
@@ -62,12 +44,12 @@ pub handle-item-spec : {M : Type 1} → statement M
 handle-item-spec =
     tie.close
     (tie.spec
-    len-at-requires
-    parent-len-requires
-    cast-fattest
-    cast-fattest-2
+    (λ c κs. search needs)
+    (λ c κs. search needs)
+    (λ c. search needs)
+    (λ c. search needs)
     fattest-requires
-    cast-f
-    delimiter-at-requires
+    (λ c. search needs)
+    (λ c κs. search needs)
     prefix-item-requires
     returns)

@@ -5,20 +5,11 @@ use borrow.Author.Needs.{needs}
 use Rattle.splits.proofs.split.handle_split.Statement.{statement}
 use Rattle.splits.proofs.split.handle_split.Tie as tie
 
-add-if1 : tie.Need-add-if1
-add-if1 c = search needs
-
-add-result : tie.Need-add-result
-add-result c = search needs
-
 returns : tie.Need-returns
 returns c = let a = c .before .args in rw (lt-ltb (a .i + 1) (a .root) (c .if1 .taken))
-
-add-result-2 : tie.Need-add-result-2
-add-result-2 c = search needs
 
 returns-2 : tie.Need-returns-2
 returns-2 c = let a = c .before .args in rw (le-ltb (a .i + 1) (a .root) (c .if1 .left))
 
 pub handle-split-spec : {M : Type 1} → statement M
-handle-split-spec = tie.close (tie.spec add-if1 add-result returns add-result-2 returns-2)
+handle-split-spec = tie.close (tie.spec (λ c. search needs) (λ c. search needs) returns (λ c. search needs) returns-2)

@@ -12,13 +12,10 @@ returns c =
     let a = c .before .before .args in
     rw (le-ltb (a .j) (length (delimiters (a .b) (a .keys .now))) (omega arith))
 
-len-at-requires : tie.Need-len-at-requires
-len-at-requires c κs = search needs
-
 returns-2 : tie.Need-returns-2
 returns-2 c =
     let a = c .before .before .before .args in
     rw (lt-ltb (a .j) (length (delimiters (a .b) (a .keys .now))) (omega arith)) (c .len-at .ensures)
 
 pub len-of-end-spec : {M : Type 1} → statement M
-len-of-end-spec = tie.close (tie.spec returns len-at-requires returns-2)
+len-of-end-spec = tie.close (tie.spec returns (λ c κs. search needs) returns-2)

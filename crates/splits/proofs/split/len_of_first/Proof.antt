@@ -8,13 +8,10 @@ use Rattle.splits.proofs.split.len_of_first.Tie as tie
 returns : tie.Need-returns
 returns c = rw (c .if1 .taken)
 
-len-at-requires : tie.Need-len-at-requires
-len-at-requires c κs = search needs
-
 returns-2 : tie.Need-returns-2
 returns-2 c =
     let a = c .before .before .before .args in
     rw (lt-ltb 0 (a .j) (omega arith)) (c .len-at .ensures)
 
 pub len-of-first-spec : {M : Type 1} → statement M
-len-of-first-spec = tie.close (tie.spec returns len-at-requires returns-2)
+len-of-first-spec = tie.close (tie.spec returns (λ c κs. search needs) returns-2)

@@ -16,15 +16,6 @@ apart s =
     let rising = s .pre .rising in
     ends-apart (delimiters (s .args .b) (s .args .keys .now)) (rising .table) (s .args .m) (rising .split .pos) (rising .split .small)
 
-delimiter-count-requires : tie.Need-delimiter-count-requires
-delimiter-count-requires c κs = search needs
-
-entry-at-requires : tie.Need-entry-at-requires
-entry-at-requires c κs = search needs
-
-entry-at-requires-2 : tie.Need-entry-at-requires-2
-entry-at-requires-2 c κs = search needs
-
 len-of-first-requires : tie.Need-len-of-first-requires
 len-of-first-requires c κs =
     let s = c .before .before .before .before .before .before in
@@ -33,9 +24,6 @@ len-of-first-requires c κs =
 len-of-end-requires : tie.Need-len-of-end-requires
 len-of-end-requires c κs =
     (search needs, omega (arith, apart (c .before .before .before .before .before .before .before)))
-
-larger-requires : tie.Need-larger-requires
-larger-requires c κs = search needs
 
 returns : tie.Need-returns
 returns c =
@@ -46,10 +34,10 @@ pub parent-len-spec : {M : Type 1} → statement M
 parent-len-spec =
     tie.close
     (tie.spec
-    delimiter-count-requires
-    entry-at-requires
-    entry-at-requires-2
+    (λ c κs. search needs)
+    (λ c κs. search needs)
+    (λ c κs. search needs)
     len-of-first-requires
     len-of-end-requires
-    larger-requires
+    (λ c κs. search needs)
     returns)

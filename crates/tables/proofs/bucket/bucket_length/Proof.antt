@@ -14,32 +14,11 @@ mul-first c =
     let s = c .before in
     omega (arith, bucket-begins (length (s .args .keys .now)) (s .args .b) (s .args .i) (s .pre .1 .some) (s .pre .2))
 
-bucket-end-requires : tie.Need-bucket-end-requires
-bucket-end-requires c κs = search needs
-
-sub-last : tie.Need-sub-last
-sub-last c = search needs
-
 returns : tie.Need-returns
 returns c =
     let s = c .before .before .before in
     let one = length-one (s .args .keys .now) (s .pre .0) (s .args .b) (s .args .i) (s .pre .1 .some) (s .pre .2) (omega arith) in
     (sym one, omega arith)
-
-mul-shared-bits : tie.Need-mul-shared-bits
-mul-shared-bits c = search needs
-
-shared-slice-read-shared-bits : tie.Need-shared-slice-read-shared-bits
-shared-slice-read-shared-bits c = search needs
-
-mul-shared-bits-2 : tie.Need-mul-shared-bits-2
-mul-shared-bits-2 c = search needs
-
-shared-slice-read-shared-bits-2 : tie.Need-shared-slice-read-shared-bits-2
-shared-slice-read-shared-bits-2 c = search needs
-
-shared-bits-requires : tie.Need-shared-bits-requires
-shared-bits-requires c κs = search needs
 
 returns-2 : tie.Need-returns-2
 returns-2 c =
@@ -56,12 +35,12 @@ bucket-length-spec =
     tie.close
     (tie.spec
     mul-first
-    bucket-end-requires
-    sub-last
+    (λ c κs. search needs)
+    (λ c. search needs)
     returns
-    mul-shared-bits
-    shared-slice-read-shared-bits
-    mul-shared-bits-2
-    shared-slice-read-shared-bits-2
-    shared-bits-requires
+    (λ c. search needs)
+    (λ c. search needs)
+    (λ c. search needs)
+    (λ c. search needs)
+    (λ c κs. search needs)
     returns-2)

@@ -19,9 +19,6 @@ limits : (c : tie.Then1) → let a = c .before .before .before .args in
     (length (a .keys .now) ≤ 32768) × (2 ≤ a .b) × (a .b ≤ 256) × (a .i < buckets (length (a .keys .now)) (a .b))
 limits c = let a = c .before .before .before .args in has-bucket-limits (length (a .keys .now)) (a .b) (a .i) (has c)
 
-has-bucket-requires : tie.Need-has-bucket-requires
-has-bucket-requires c κs = search needs
-
 mul-from : tie.Need-mul-from
 mul-from c =
     let a = c .before .before .before .args in
@@ -31,33 +28,12 @@ mul-from c =
 bucket-end-requires : tie.Need-bucket-end-requires
 bucket-end-requires c κs = let l = limits c in (omega arith, l .2, l .0, l .3)
 
-mul-result : tie.Need-mul-result
-mul-result c = search needs
-
-sub-result : tie.Need-sub-result
-sub-result c = search needs
-
-part-result-start : tie.Need-part-result-start
-part-result-start c = search needs
-
-part-result-end : tie.Need-part-result-end
-part-result-end c = search needs
-
 returns : tie.Need-returns
 returns c =
     let then = c .before .before in
     let a = then .before .before .before .args in
     let view = view-rows (a .keys .now) (a .b) (a .i) (c .before .bucket-end .result) (has then) (c .before .bucket-end .ensures .0) in
     (view, rw (has then))
-
-sub-result-2 : tie.Need-sub-result-2
-sub-result-2 c = search needs
-
-part-result-start-2 : tie.Need-part-result-start-2
-part-result-start-2 c = search needs
-
-part-result-end-2 : tie.Need-part-result-end-2
-part-result-end-2 c = search needs
 
 returns-2 : tie.Need-returns-2
 returns-2 c =
@@ -70,15 +46,15 @@ pub bucket-view-spec : {M : Type 1} → statement M
 bucket-view-spec =
     tie.close
     (tie.spec
-    has-bucket-requires
+    (λ c κs. search needs)
     mul-from
     bucket-end-requires
-    mul-result
-    sub-result
-    part-result-start
-    part-result-end
+    (λ c. search needs)
+    (λ c. search needs)
+    (λ c. search needs)
+    (λ c. search needs)
     returns
-    sub-result-2
-    part-result-start-2
-    part-result-end-2
+    (λ c. search needs)
+    (λ c. search needs)
+    (λ c. search needs)
     returns-2)

@@ -17,9 +17,6 @@ returns-3 : tie.Need-returns-3
 unfolding hasBucket
 returns-3 c = search (needs, lt-ltb, le-ltb)
 
-bucket-count-requires : tie.Need-bucket-count-requires
-bucket-count-requires c κs = search needs
-
 returns-4 : tie.Need-returns-4
 unfolding hasBucket
 returns-4 c =
@@ -30,4 +27,4 @@ returns-4 c =
     simp (c .bucket-count .ensures .0, few, least, most)
 
 pub has-bucket-spec : {M : Type 1} → statement M
-has-bucket-spec = tie.close (tie.spec returns returns-2 returns-3 bucket-count-requires returns-4)
+has-bucket-spec = tie.close (tie.spec returns returns-2 returns-3 (λ c κs. search needs) returns-4)

@@ -39,15 +39,6 @@ mul-end c = omega (arith, begins (c .before))
 add-end : tie.Need-add-end
 add-end c = omega (arith, begins (c .before))
 
-sub-result : tie.Need-sub-result
-sub-result c = search needs
-
-mul-result-2 : tie.Need-mul-result-2
-mul-result-2 c = search needs
-
-shared-slice-read-result-2 : tie.Need-shared-slice-read-result-2
-shared-slice-read-result-2 c = search needs
-
 returns-2 : tie.Need-returns-2
 returns-2 c =
     let s = c .before .before .before in
@@ -56,9 +47,6 @@ returns-2 c =
 
 sub-result-2 : tie.Need-sub-result-2
 sub-result-2 c = omega (arith, begins (c .before .before))
-
-mul-result-3 : tie.Need-mul-result-3
-mul-result-3 c = search needs
 
 shared-slice-read-result-3 : tie.Need-shared-slice-read-result-3
 shared-slice-read-result-3 c = omega (arith, begins (c .before .before .before))
@@ -78,11 +66,11 @@ delimiter-at-spec =
     returns
     mul-end
     add-end
-    sub-result
-    mul-result-2
-    shared-slice-read-result-2
+    (λ c. search needs)
+    (λ c. search needs)
+    (λ c. search needs)
     returns-2
     sub-result-2
-    mul-result-3
+    (λ c. search needs)
     shared-slice-read-result-3
     returns-3)

@@ -12,13 +12,10 @@ returns c =
     let keys = c .before .before .args .keys .now in
     (ap length (sym (delimiters-all keys (c .if1 .taken))), le-refl (length keys))
 
-bucket-count-requires : tie.Need-bucket-count-requires
-bucket-count-requires c κs = search needs
-
 returns-2 : tie.Need-returns-2
 returns-2 c =
     let a = c .before .before .before .args in
     (c .bucket-count .ensures .0 ∙ sym (length-delimiters (a .b) (a .keys .now)), c .bucket-count .ensures .1)
 
 pub delimiter-count-spec : {M : Type 1} → statement M
-delimiter-count-spec = tie.close (tie.spec returns bucket-count-requires returns-2)
+delimiter-count-spec = tie.close (tie.spec returns (λ c κs. search needs) returns-2)

@@ -17,18 +17,6 @@ returns-3 : tie.Need-returns-3
 unfolding namedLengths
 returns-3 c = search (needs, lt-ltb, le-ltb)
 
-call-cells-requires : tie.Need-call-cells-requires
-call-cells-requires c κs = search needs
-
-handle-cells-requires : tie.Need-handle-cells-requires
-handle-cells-requires c κs = search needs
-
-call-work-requires : tie.Need-call-work-requires
-call-work-requires c κs = search needs
-
-neighbour-work-requires : tie.Need-neighbour-work-requires
-neighbour-work-requires c κs = search needs
-
 returns-4 : tie.Need-returns-4
 unfolding namedLengths
 returns-4 c = search (needs, lt-ltb, le-ltb)
@@ -40,8 +28,8 @@ named-lengths-spec =
     returns
     returns-2
     returns-3
-    call-cells-requires
-    handle-cells-requires
-    call-work-requires
-    neighbour-work-requires
+    (λ c κs. search needs)
+    (λ c κs. search needs)
+    (λ c κs. search needs)
+    (λ c κs. search needs)
     returns-4)

@@ -12,12 +12,12 @@ use lib.Pow.{shr-mono}
 use Rattle.words.specs.Keys.{firstBits, bitAt}
 use Rattle.tables.specs.Tables.{keyAt, Table, smaller}
 use Rattle.splits.specs.Splits.{len, left, right}
-use Rattle.splits.proofs.Bools.{by-test}
+use Rattle.basics.proofs.Bools.{by-test}
 use Rattle.splits.proofs.Rows.{next-bit, less-by, smaller-edge, len-lt, len-iff, neighbours, rows-below, rows-above, low-side, high-side}
 use Rattle.splits.proofs.Rows.{left-lt, right-gt, right-le}
-use Rattle.neighbour.specs.Walk.{before, decide}
-use Rattle.neighbour.proofs.Paths.{OnPath}
-use Rattle.neighbour.proofs.Descending.{Deepest}
+use Rattle.walks.specs.Walk.{before, decide}
+use Rattle.walks.proofs.Paths.{OnPath}
+use Rattle.walks.proofs.Descending.{Deepest}
 
 module _ (T : List ℕ) (t : Table T) (x : ℕ) where
   -- where x stands between two rows, the split between them is on its path

@@ -3,7 +3,7 @@ use mathlib.Core.Path.{_≡_}
 use mathlib.Core.Bool.{Bool, true, _&&_, _||_, not}
 use Prim.Native.Nat.{ℕ, zero, suc, _+_, _<_}
 use lib.Dec.{eqb}
-use Rattle.maps.specs.Jam.{Touches, sizeOf}
+use Rattle.jams.specs.Jam.{Touches, sizeOf}
 
 -- item i touches cell c, as a test
 unfoldable pub touchb : (ℕ → ℕ → ℕ) → ℕ → ℕ → Bool

@@ -7,8 +7,8 @@ use Prim.Native.Nat.{ℕ, zero, suc, _+_, _-_, _<_, _≤_}
 use lib.Dec.{eqb}
 use lib.ListN.{length, getD}
 use lib.Bits.{bitXor}
-use Rattle.maps.specs.Jam.{sizeOf}
-use Rattle.maps.specs.Inner.Peel.{touchb, live, Peeling, still}
+use Rattle.jams.specs.Jam.{sizeOf}
+use Rattle.jams.specs.Inner.Peel.{touchb, live, Peeling, still}
 
 -- one more where the test is true
 abbrev pub moreIf : Bool → ℕ → ℕ

@@ -15,13 +15,13 @@ use Rattle.words.specs.Fat.{binaryDigits}
 use Rattle.words.proofs.Probing.{probes-from}
 use Rattle.tables.specs.Tables.{keyAt, Table, smaller}
 use Rattle.splits.specs.Splits.{len, root, leftEntry, rightEntry}
-use Rattle.splits.proofs.Bools.{both, by-test}
+use Rattle.basics.proofs.Bools.{both, by-test}
 use Rattle.splits.proofs.Rows.{less-by, len-lt}
 use Rattle.splits.proofs.Parents.{root-pos, root-lt, root-all, left-root, left-split, right-split}
-use Rattle.neighbour.specs.Walk.{onPath, Descent, descend, Answer, before, spoiled, Walk, decide, walk, pathWalk, storeWalk, Stored}
-use Rattle.neighbour.proofs.Paths.{OnPath}
-use Rattle.neighbour.proofs.Descending.{onward-split, Deepest, descend-path, descend-deep, descend-probes}
-use Rattle.neighbour.proofs.Deciding.{decides, smaller-low, smaller-high, smaller-most}
+use Rattle.walks.specs.Walk.{onPath, Descent, descend, Answer, before, spoiled, Walk, decide, walk, pathWalk, storeWalk, Stored}
+use Rattle.walks.proofs.Paths.{OnPath}
+use Rattle.walks.proofs.Descending.{onward-split, Deepest, descend-path, descend-deep, descend-probes}
+use Rattle.walks.proofs.Deciding.{decides, smaller-low, smaller-high, smaller-most}
 
 abbrev pub halt : ℕ → Answer → Walk
 halt m a = record { probed = []; node = m; answer = a }

@@ -7,7 +7,7 @@ use native.Mathlib.Omega.{arith}
 use lib.ListN.{length, getD, drop, replicate, length-replicate, length-drop, getD-replicate, List·getD-append}
 use lib.Seq.{getD-drop, drop-at, ext-getD}
 use Rattle.cells.specs.Memory.{cleared}
-use Rattle.maps.specs.Inner.Work.{Blank, Beyond}
+use Rattle.jams.specs.Inner.Work.{Blank, Beyond}
 
 pub cleared-blank : (m : ℕ) (xs : List ℕ) {ys : List ℕ} → ys ≡ cleared m xs → length ys ≡ length xs → m ≤ length xs → Blank m ys
 cleared-blank m xs e l h =

@@ -4,7 +4,7 @@ use mathlib.Core.List.{List}
 use Prim.Native.Nat.{ℕ, _<_}
 use lib.ListN.{getD}
 use lib.Bits.{bitXor}
-use Rattle.maps.specs.Jam.{Touches}
+use Rattle.jams.specs.Jam.{Touches}
 
 -- the value of item i: the xor of its three cells
 unfoldable pub valueOf : (ℕ → ℕ → ℕ) → List ℕ → ℕ → ℕ

@@ -9,7 +9,7 @@ use borrow.Author.Tests.{ltb-true}
 use lib.Dec.{ltb}
 use lib.ListN.{length}
 use Rattle.tables.specs.Tables.{keyAt, Table}
-use Rattle.splits.proofs.Bools.{both}
+use Rattle.basics.proofs.Bools.{both}
 
 -- x is below the first of the keys
 abbrev pub under : ℕ → List ℕ → Bool

@@ -15,10 +15,10 @@ use Rattle.words.specs.Fat.{Fattest, fattestOf}
 use Rattle.words.proofs.Fatness.{fattest-one, fattest-of}
 use Rattle.tables.specs.Tables.{keyAt, Table}
 use Rattle.splits.specs.Splits.{len, left, right, root, parentLen, handleLen, handleItem}
-use Rattle.splits.proofs.Bools.{not-both}
+use Rattle.basics.proofs.Bools.{not-both}
 use Rattle.splits.proofs.Rows.{share-down, between, len-lt, len-iff, neighbours, rows-own, left-lt, right-gt, right-le, left-len, right-len}
 use Rattle.splits.proofs.Parents.{root-least, parent-left, parent-right, parent-lt}
-use Rattle.neighbour.specs.Walk.{onPath, probeAt, pathTo}
+use Rattle.walks.specs.Walk.{onPath, probeAt, pathTo}
 
 -- the probe is the 2-fattest number strictly between
 pub probe-fattest : (T : List ℕ) (node upper : ℕ) → suc (len T node) < upper → upper ≤ 64 → Fattest (len T node) (upper - 1) (probeAt T node upper)

@@ -23,11 +23,12 @@ use borrow.Author.Tests.{eq-eqb, ne-eqb, eqb-true}
 use lib.Dec.{eqb}
 use lib.ListN.{length, getD, set, length-set}
 use lib.Seq.{getD-set-same, getD-set-other}
-use Rattle.maps.specs.Jam.{Touches, sizeOf}
-use Rattle.maps.specs.Inner.Peel.{touchb, live, Peeling, still}
-use Rattle.maps.specs.Inner.Work.{Put, Holds, Peeled, Seen, AllSeen, Tryable, Tried, moreIf, xorIf, mark, turnItem, turnCell}
-use Rattle.maps.proofs.Sets.{size-one, One, Without, size-less, xor-less, size-zero, clash, true-or-false, last-or-below, xor-if-twice}
-use Rattle.maps.proofs.Jams.{and-left, and-right, and-both, touched, touches, live-ext, live-not, live-le}
+use Rattle.basics.proofs.Bools.{both, and-both, not-both, true-or-false}
+use Rattle.jams.specs.Jam.{Touches, sizeOf}
+use Rattle.jams.specs.Inner.Peel.{touchb, live, Peeling, still}
+use Rattle.jams.specs.Inner.Work.{Put, Holds, Peeled, Seen, AllSeen, Tryable, Tried, moreIf, xorIf, mark, turnItem, turnCell}
+use Rattle.jams.proofs.Sets.{size-one, One, Without, size-less, xor-less, size-zero, last-or-below, xor-if-twice}
+use Rattle.jams.proofs.Jams.{touched, touches, live-ext, live-not, live-le}
 
 pub at-most : {e : ℕ → ℕ → ℕ} {t cap q n : ℕ} {w : List ℕ} → Peeled e t cap w q n → n ≤ t
 at-most P = omega (arith, P .order .left)
@@ -47,8 +48,8 @@ one-left {e} {t} {cap} {q} {n} {w} c P l d =
     let o : One (still e st q c) t i = rw (P .holds .xor c l) (size-one (still e st q c) t (sym (P .holds .count c l) ∙ d)) in
     record {
       below = o .below;
-      left = and-left (live st q i) (touchb e i c) (o .passes);
-      here = touched e i c (and-right (live st q i) (touchb e i c) (o .passes));
+      left = both (live st q i) (touchb e i c) (o .passes) .0;
+      here = touched e i c (both (live st q i) (touchb e i c) (o .passes) .1);
       only = λ j m a b. o .only j m (and-both a (touches e j c b));
     }
 
@@ -67,7 +68,7 @@ turn-marked {t = t} {cap} {n = n} {w} p P l =
 -- while one is not marked, not all have their turns
 not-all : {e : ℕ → ℕ → ℕ} {t cap q n : ℕ} {w : List ℕ} (i : ℕ) → Peeled e t cap w q n → i < t → mark cap w i ≡ 0 → n < t
 not-all {t = t} {cap} {n = n} {w} i P l u =
-    let some : ¬ (sizeOf (live (turnItem cap t w) n) t ≡ 0) = λ z. clash (unmarked i P l u) (size-zero (live (turnItem cap t w) n) t z i l) in
+    let some : ¬ (sizeOf (live (turnItem cap t w) n) t ≡ 0) = λ z. not-both (unmarked i P l u) (size-zero (live (turnItem cap t w) n) t z i l) in
     omega (arith, P .order .left)
 
 pub can-try : {e : ℕ → ℕ → ℕ} {t cap q n : ℕ} {w : List ℕ} (c : ℕ) → Peeled e t cap w q n → c < cap → cap < 65536 → t < 65536
@@ -264,7 +265,7 @@ module _ {e : ℕ → ℕ → ℕ} {t cap q n : ℕ} {w : List ℕ} (P : Peeled 
   turn-counted k m h =
       let s = still e (turnItem cap t w) q k in
       let some : ¬ (getD w k 0 ≡ 0) =
-      λ z. clash (and-both now-left (touches e Now k h)) (size-zero s t (sym (P .holds .count k m) ∙ z) Now (P .order .small q l)) in
+      λ z. not-both (and-both now-left (touches e Now k h)) (size-zero s t (sym (P .holds .count k m) ∙ z) Now (P .order .small q l)) in
       omega arith
 
   -- is taken out

@@ -11,18 +11,10 @@ use Prim.Native.Nat.{ℕ, zero, suc, _≤_, _<_}
 use native.Mathlib.Omega.{arith}
 use borrow.Author.Tests.{eq-eqb, ne-eqb, eqb-true, eqb-false, not-true}
 use lib.Dec.{eqb}
-use Rattle.maps.specs.Jam.{Touches, Jam, NoJam, Largest, sizeOf}
-use Rattle.maps.specs.Inner.Peel.{touchb, live, Peeling, still}
-use Rattle.maps.proofs.Sets.{size-zero, size-some, size-other, clash, true-or-false, last-or-below}
-
-pub and-left : (a b : Bool) → a && b ≡ true → a ≡ true
-and-left a b h = and-eq-true-iff a b .0 h .0
-
-pub and-right : (a b : Bool) → a && b ≡ true → b ≡ true
-and-right a b h = and-eq-true-iff a b .0 h .1
-
-pub and-both : {a b : Bool} → a ≡ true → b ≡ true → a && b ≡ true
-and-both p q = ap₂ _&&_ p q
+use Rattle.basics.proofs.Bools.{both, and-both, not-both, true-or-false}
+use Rattle.jams.specs.Jam.{Touches, Jam, NoJam, Largest, sizeOf}
+use Rattle.jams.specs.Inner.Peel.{touchb, live, Peeling, still}
+use Rattle.jams.proofs.Sets.{size-zero, size-some, size-other, last-or-below}
 
 or-cases : (a b : Bool) → a || b ≡ true → (a ≡ true) ⊎ (b ≡ true)
 or-cases true b e = inl refl
@@ -54,7 +46,7 @@ closed-jam e t s no-one some =
       twice = λ i c l h w.
           let o : (j : ℕ) × (j < t) × (s j && touchb e j c ≡ true) × (j ≡ i → ⊥) =
           size-other (λ k. s k && touchb e k c) t i (no-one c) l (and-both h (touches e i c w)) in
-          (o .0, o .1, and-left (s (o .0)) (touchb e (o .0) c) (o .2), touched e (o .0) c (and-right (s (o .0)) (touchb e (o .0) c) (o .2)), o .3);
+          (o .0, o .1, both (s (o .0)) (touchb e (o .0) c) (o .2) .0, touched e (o .0) c (both (s (o .0)) (touchb e (o .0) c) (o .2) .1), o .3);
     }
 
 -- who is left was peeled at no turn
@@ -63,8 +55,8 @@ unfolding live
 live-not st zero i h p l e = omega arith
 live-not st (suc n) i h p l e =
     ⊎-elim
-    (λ (q : p ≡ n). eqb-false (st n) i (not-true (eqb (st n) i) (and-right (live st n i) (not (eqb (st n) i)) h)) (ap st (sym q) ∙ e))
-    (λ (m : p < n). live-not st n i (and-left (live st n i) (not (eqb (st n) i)) h) p m e)
+    (λ (q : p ≡ n). eqb-false (st n) i (not-true (eqb (st n) i) (both (live st n i) (not (eqb (st n) i)) h .1)) (ap st (sym q) ∙ e))
+    (λ (m : p < n). live-not st n i (both (live st n i) (not (eqb (st n) i)) h .0) p m e)
     (last-or-below l)
 
 -- who was peeled at no turn is left
@@ -76,13 +68,13 @@ live-all st (suc n) i h = and-both (live-all st n i (λ p l. h p (omega arith)))
 -- who is not left was peeled at some turn
 pub live-out : (st : ℕ → ℕ) (n i : ℕ) → live st n i ≡ false → (p : ℕ) × (p < n) × (st p ≡ i)
 unfolding live
-live-out st zero i h = absurd (clash refl h)
+live-out st zero i h = absurd (not-both refl h)
 live-out st (suc n) i h =
     ⊎-elim
     (λ (e : eqb (st n) i ≡ true). (n, omega arith, eqb-true (st n) i e))
     (λ (e : eqb (st n) i ≡ false).
     ⊎-elim
-    (λ (a : live st n i ≡ true). absurd (clash (and-both a (ap not e)) h))
+    (λ (a : live st n i ≡ true). absurd (not-both (and-both a (ap not e)) h))
     (λ (a : live st n i ≡ false).
     let r : (p : ℕ) × (p < n) × (st p ≡ i) = live-out st n i a in
     (r .0, omega arith, r .2))
@@ -119,7 +111,7 @@ module _ (e : ℕ → ℕ → ℕ) (t : ℕ) (st at : ℕ → ℕ) (n : ℕ) (P 
   none-left q i l = size-zero (live st n) t (omega (arith, P .left)) i l
 
   pub all-peeled : n ≡ t → NoJam e t
-  all-peeled q s J = clash (jam-has-none-peeled s J (J .some .0) (J .some .2)) (none-left q (J .some .0) (J .some .1))
+  all-peeled q s J = not-both (jam-has-none-peeled s J (J .some .0) (J .some .2)) (none-left q (J .some .0) (J .some .1))
 
   pub rest-largest : (n ≡ t → ⊥) → ((c : ℕ) → sizeOf (still e st n c) t ≡ 1 → ⊥) → Largest e t (live st n)
   rest-largest q h =

@@ -15,16 +15,10 @@ use native.Mathlib.Omega.{arith}
 use borrow.Author.Tests.{eq-eqb, ne-eqb}
 use lib.Dec.{eqb}
 use lib.Bits.{bitXor}
+use Rattle.basics.proofs.Bools.{not-both, true-or-false}
 use Rattle.words.proofs.Xor.{xor-cancel, xor-sort}
-use Rattle.maps.specs.Jam.{sizeOf}
-use Rattle.maps.specs.Inner.Work.{moreIf, xorIf, xorOf}
-
-pub clash : {b : Bool} → b ≡ true → b ≡ false → ⊥
-clash p q = true≢false (sym p ∙ q)
-
-pub true-or-false : (b : Bool) → (b ≡ true) ⊎ (b ≡ false)
-true-or-false true = inl refl
-true-or-false false = inr refl
+use Rattle.jams.specs.Jam.{sizeOf}
+use Rattle.jams.specs.Inner.Work.{moreIf, xorIf, xorOf}
 
 -- a number below suc t is t, or below t
 pub last-or-below : {k t : ℕ} → k < suc t → (k ≡ t) ⊎ (k < t)
@@ -141,14 +135,14 @@ one-more p t true e h rec =
     (record {
       below = omega arith;
       passes = e;
-      only = λ k l q. ⊎-elim (λ (m : k ≡ t). m) (λ (m : k < t). absurd (clash q (size-zero p t z k m))) (last-or-below l);
+      only = λ k l q. ⊎-elim (λ (m : k ≡ t). m) (λ (m : k < t). absurd (not-both q (size-zero p t z k m))) (last-or-below l);
     })
 one-more p t false e h rec =
     let r : One p t (xorOf p t) = rec h in
     record {
       below = omega (arith, r .below);
       passes = r .passes;
-      only = λ k l q. ⊎-elim (λ (m : k ≡ t). absurd (clash q (ap p m ∙ e))) (λ (m : k < t). r .only k m q) (last-or-below l);
+      only = λ k l q. ⊎-elim (λ (m : k ≡ t). absurd (not-both q (ap p m ∙ e))) (λ (m : k < t). r .only k m q) (last-or-below l);
     }
 
 pub size-one : (p : ℕ → Bool) (t : ℕ) → sizeOf p t ≡ 1 → One p t (xorOf p t)
@@ -176,5 +170,5 @@ size-other p t i h l e =
       r .0,
       r .1,
       and-eq-true-iff (p (r .0)) (not (eqb i (r .0))) .0 (r .2) .0,
-      λ z. clash (r .2) (ap (without p i) z ∙ without-is p i .gone),
+      λ z. not-both (r .2) (ap (without p i) z ∙ without-is p i .gone),
     )

@@ -13,9 +13,9 @@ use Rattle.words.specs.Keys.{prefixItem}
 use Rattle.words.specs.Fat.{Fattest, Probes, done, below, onward}
 use Rattle.tables.specs.Tables.{Table}
 use Rattle.splits.specs.Splits.{len, root, handleItem}
-use Rattle.splits.proofs.Bools.{both, not-both, by-test}
-use Rattle.neighbour.specs.Walk.{onPath, probeAt, accepted, Descent, descend, pathTo}
-use Rattle.neighbour.proofs.Paths.{probe-fattest, OnPath, Least, path-to, handle-at}
+use Rattle.basics.proofs.Bools.{both, not-both, by-test}
+use Rattle.walks.specs.Walk.{onPath, probeAt, accepted, Descent, descend, pathTo}
+use Rattle.walks.proofs.Paths.{probe-fattest, OnPath, Least, path-to, handle-at}
 
 -- what acceptance says
 pub record Taken (T : List ℕ) (x f upper m : ℕ) : Type 0 where

@@ -1,15 +1,16 @@
--- `neighbour::neighbour_ask` meets its contract: the refusals by their tests in order, then the walk over the delimiters of buckets of one
+-- `neighbour::ask::neighbour_ask` meets its contract: the refusals by their tests in order, then the walk over the delimiters of buckets of one
 -- row, which are the table. Assumes nothing.
 use native.Mathlib.Omega.{arith}
 use borrow.Author.Tests.{lt-ltb, le-ltb}
 use lib.ListN.{length}
 use Rattle.cells.specs.Cells.{cellCount}
 use Rattle.tables.specs.Tables.{mostKeys}
+use Rattle.tables.specs.Lengths.{handleCount}
 use Rattle.tables.proofs.Delimiting.{delimiters-one}
-use Rattle.neighbour.specs.Ask.{saidByNeighbour, handleCount, neighbourSays}
+use Rattle.neighbour.specs.Ask.{saidByNeighbour, neighbourSays}
 use borrow.Author.Needs.{needs}
-use Rattle.neighbour.proofs.neighbour_ask.Statement.{statement}
-use Rattle.neighbour.proofs.neighbour_ask.Tie as tie
+use Rattle.neighbour.proofs.ask.neighbour_ask.Statement.{statement}
+use Rattle.neighbour.proofs.ask.neighbour_ask.Tie as tie
 
 returns : tie.Need-returns
 unfolding saidByNeighbour neighbourSays
@@ -18,12 +19,6 @@ returns c =
     let keys = a .keys .now in
     rw (lt-ltb mostKeys (length keys) (omega arith))
 
-handle-count-requires : tie.Need-handle-count-requires
-handle-count-requires c κs = search needs
-
-cell-count-requires : tie.Need-cell-count-requires
-cell-count-requires c κs = search needs
-
 returns-2 : tie.Need-returns-2
 unfolding saidByNeighbour neighbourSays
 returns-2 c =
@@ -31,7 +26,7 @@ returns-2 c =
     let keys = a .keys .now in
     rw (
       le-ltb mostKeys (length keys) (omega arith),
-      lt-ltb (length (a .handles .now)) (cellCount (handleCount keys)) (omega arith),
+      lt-ltb (length (a .handles .now)) (cellCount (handleCount (length keys))) (omega arith),
     )
 
 returns-3 : tie.Need-returns-3
@@ -41,7 +36,7 @@ returns-3 c =
     let keys = a .keys .now in
     rw (
       le-ltb mostKeys (length keys) (omega arith),
-      le-ltb (length (a .handles .now)) (cellCount (handleCount keys)) (omega arith),
+      le-ltb (length (a .handles .now)) (cellCount (handleCount (length keys))) (omega arith),
       lt-ltb (length (a .left .now)) (length keys) (omega arith),
     )
 
@@ -52,7 +47,7 @@ returns-4 c =
     let keys = a .keys .now in
     rw (
       le-ltb mostKeys (length keys) (omega arith),
-      le-ltb (length (a .handles .now)) (cellCount (handleCount keys)) (omega arith),
+      le-ltb (length (a .handles .now)) (cellCount (handleCount (length keys))) (omega arith),
       le-ltb (length (a .left .now)) (length keys) (omega arith),
       lt-ltb (length (a .right .now)) (length keys) (omega arith),
     )
@@ -74,7 +69,7 @@ returns-5 c =
     let keys = a .keys .now in
     rw (
       le-ltb mostKeys (length keys) (omega arith),
-      le-ltb (length (a .handles .now)) (cellCount (handleCount keys)) (omega arith),
+      le-ltb (length (a .handles .now)) (cellCount (handleCount (length keys))) (omega arith),
       le-ltb (length (a .left .now)) (length keys) (omega arith),
       le-ltb (length (a .right .now)) (length keys) (omega arith),
     ) (rw (delimiters-one keys) at (c .walk-from .ensures))
@@ -84,8 +79,8 @@ neighbour-ask-spec =
     tie.close
     (tie.spec
     returns
-    handle-count-requires
-    cell-count-requires
+    (λ c κs. search needs)
+    (λ c κs. search needs)
     returns-2
     returns-3
     returns-4
