@@ -463,3 +463,9 @@ fn rowcheck_example() -> usize {
     }
     1 + input.len()
 }
+
+/// `cargo test` runs what `reference selfcheck` runs.
+#[test]
+fn every_check_holds() {
+    run();
+}

@@ -115,14 +115,11 @@ fn neighbour_build(keys: &[u64], seed: u64) -> Result<neighbour::Stores, Refusal
     Ok(stores)
 }
 
-/// The first seed of 0 to 255 that a build takes with what it left, or the refusal of seed 255.
-fn first_taken<T>(build: impl Fn(u64) -> Result<T, Refusal>) -> Result<(u64, T), Refusal> {
-    for seed in 0..255 {
-        if let Ok(built) = build(seed) {
-            return Ok((seed, built));
-        }
-    }
-    build(255).map(|built| (255, built))
+/// The first seed of 0 to 255 that a build takes, with what it left.
+fn first_taken<T>(build: impl Fn(u64) -> Result<T, Refusal>) -> (u64, T) {
+    (0..256)
+        .find_map(|seed| Some((seed, build(seed).ok()?)))
+        .expect("some seed is taken for each table of the vectors")
 }
 
 fn said<T>(result: Result<T, Refusal>) -> String {
@@ -205,16 +202,8 @@ fn callvectors() -> String {
 fn callvectors_of(text: &mut String, name: &str, n: usize, bucket: usize) {
     let mut keys = table(name, n);
     let head = format!("table={name} keys={n} bucket={bucket}");
-    let seed = match first_taken(|seed| call_build(&keys, bucket, seed)) {
-        Ok((seed, cells)) => {
-            line!(text, "{head} seed={seed} {}", call_digest(&keys, bucket, seed, &cells));
-            seed
-        }
-        Err(refusal) => {
-            line!(text, "{head} {}", said::<()>(Err(refusal)));
-            0
-        }
-    };
+    let (seed, cells) = first_taken(|seed| call_build(&keys, bucket, seed));
+    line!(text, "{head} seed={seed} {}", call_digest(&keys, bucket, seed, &cells));
 
     let cell = |rule: &str, i: usize| match rule {
         "few" if i < maps::cell_count(n) => mix(i as u64 + 7) % 4,
@@ -266,16 +255,8 @@ fn neighbourvectors() -> String {
 fn neighbourvectors_of(text: &mut String, name: &str, n: usize) {
     let keys = table(name, n);
     let head = format!("table={name} keys={n}");
-    let seed = match first_taken(|seed| neighbour_build(&keys, seed)) {
-        Ok((seed, stores)) => {
-            line!(text, "{head} seed={seed} {}", neighbour_digest(&keys, seed, &stores));
-            seed
-        }
-        Err(refusal) => {
-            line!(text, "{head} {}", said::<()>(Err(refusal)));
-            0
-        }
-    };
+    let (seed, stores) = first_taken(|seed| neighbour_build(&keys, seed));
+    line!(text, "{head} seed={seed} {}", neighbour_digest(&keys, seed, &stores));
 
     let size = n as u64;
     let numbers = |from: usize, to: usize, add: u64, modulus: u64| {

@@ -4,7 +4,7 @@ use mathlib.Core.Bool.{Bool, cond}
 use Prim.Native.Nat.{ℕ, _*_, _%_, _^_}
 use lib.Bits.{bitXor}
 use Rattle.refusals.specs.Numbers as build
-use Rattle.call.specs.Ask as call
+use Rattle.callask.specs.Ask as call
 use Rattle.neighbour.specs.Ask as near
 
 -- a refusal: 2^63, its number from bit 32 on, and what it names

@@ -1,15 +1,16 @@
-// The entries under C's calling convention, for bench/: every answer is one 64-bit number (bench/entries.h), so that the proved library and
-// its unverified twin can be run by one driver.
+// The entries under C's calling convention, for bench/: every answer is one 64-bit number (bench/entries.h), so that
+// the proved library and its unverified twin can be run by one driver.
 //
-// Every function is proved and the crate assumes nothing. No function has a `requires`: each takes what the entry behind it takes.
+// Every function is proved and the crate assumes nothing. No function has a `requires`: each takes what the entry
+// behind it takes.
 ghost use mathlib.Core.Path.{_≡_};
 ghost use Rattle.refusals.specs.Numbers.{number, names, saidByBuild};
-ghost use Rattle.call.specs.Ask.{callSays};
+ghost use Rattle.callask.specs.Ask.{callSays};
 ghost use Rattle.call.specs.Build.{CallBuilt};
 ghost use Rattle.neighbour.specs.Ask.{neighbourSays};
 ghost use Rattle.neighbour.specs.Build.{NeighbourBuilt};
 ghost use Rattle.bench.specs.Codes.{refusedCode, buildCode, Coded, callCode, neighbourCode, standsCode};
-use call::ask::CallAnswer;
+use call::CallAnswer;
 use neighbour::NeighbourAnswer;
 use refusals::Refusal;
 use refusals::Verdict;
@@ -17,7 +18,7 @@ use refusals::Verdict;
 fn refused(r: Refusal) -> u64
     ensures { λ c. ⌜ c ≡ refusedCode (number r) (names r) ⌝ }
 {
-    0x8000_0000_0000_0000 ^ (samples::answer::number(r) << 32) ^ samples::answer::named(r)
+    0x8000_0000_0000_0000 ^ (r.number() << 32) ^ r.named()
 }
 
 fn verdict(v: Verdict) -> u64
@@ -66,7 +67,9 @@ pub extern "C" fn index_neighbour_ask(
     right: &[u16],
     x: u64,
 ) -> u64
-    ensures { λ c. ⌜ c ≡ neighbourCode (neighbourSays (now (keys .entry)) (now (handles .entry)) (now (left .entry)) (now (right .entry)) seed3 x) ⌝ }
+    ensures { λ c. ⌜ c ≡ neighbourCode
+        (neighbourSays (now (keys .entry))
+        (now (handles .entry)) (now (left .entry)) (now (right .entry)) seed3 x) ⌝ }
 {
     let a = neighbour::neighbour_ask(keys, seed3, handles, left, right, x);
     match a {
@@ -84,7 +87,9 @@ pub extern "C" fn index_call_build(
     cells: &mut [u16],
     work: &mut [u16],
 ) -> u64
-    ensures { λ c. ⌜ Coded (λ said. CallBuilt (now (keys .entry)) b seed1 seed2 (now (cells .entry)) (now (work .entry)) said (now (cells .exit)) (now (work .exit))) c ⌝ }
+    ensures { λ c. ⌜ Coded (λ said. CallBuilt (now (keys .entry)) b seed1 seed2
+        (now (cells .entry)) (now (work .entry))
+        said (now (cells .exit)) (now (work .exit))) c ⌝ }
 {
     verdict(call::call_build(keys, b, seed1, seed2, cells, work))
 }
@@ -98,7 +103,8 @@ pub extern "C" fn index_neighbour_build(
     right: &mut [u16],
     work: &mut [u16],
 ) -> u64
-    ensures { λ c. ⌜ Coded (λ said. NeighbourBuilt (now (keys .entry)) seed3 (now (handles .entry)) (now (left .entry)) (now (right .entry)) (now (work .entry))
+    ensures { λ c. ⌜ Coded (λ said. NeighbourBuilt (now (keys .entry)) seed3
+        (now (handles .entry)) (now (left .entry)) (now (right .entry)) (now (work .entry))
         said (now (handles .exit)) (now (left .exit)) (now (right .exit)) (now (work .exit))) c ⌝ }
 {
     verdict(neighbour::neighbour_build(keys, seed3, handles, left, right, work))

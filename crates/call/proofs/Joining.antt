@@ -1,24 +1,25 @@
 -- Two maps in one store: what the builds of maps 1 and 2 leave, put together. Assumes nothing.
-use mathlib.Core.Path.{_≡_, refl, sym, ap, ap₂, _∙_}
+use mathlib.Core.Path.{_≡_, refl, sym, ap, _∙_}
 use mathlib.Core.List.{List, _++_}
-use Prim.Native.Nat.{ℕ, _+_, _-_, _*_, _/_, _≤_, _<_}
+use Prim.Native.Nat.{ℕ, _+_, _-_, _≤_, _<_}
 use native.Mathlib.Omega.{arith}
 use lib.ListN.{length, getD, take, drop, replicate, length-drop, drop-of-length-le}
 use borrow.Rule.Slice.PartMut.{putMid}
 use lib.Seq.{drop-drop, length-take-le, getD-take}
-use Rattle.cells.specs.Cells.{segment, cellCount, workCount}
+use Rattle.cells.specs.Cells.{cellCount, workCount}
 use Rattle.cells.specs.Memory.{cleared}
 use Rattle.cells.proofs.Values.{value-take}
 use Rattle.cells.proofs.Sweeping.{drop-cleared, cleared-over, cleared-within}
 use Rattle.tables.specs.Delimiters.{buckets}
 use Rattle.tables.specs.Lengths.{callCells, callWork}
 use Rattle.tables.proofs.Delimiting.{buckets-le}
-use Rattle.items.specs.Items.{Sorted, keyValues, prefixItems, bucketNumbers}
+use Rattle.items.specs.Items.{keyValues, prefixItems, bucketNumbers}
 use Rattle.items.proofs.Values.{length-prefixes}
-use Rattle.jams.specs.Jam.{Jammed, Jamless}
+use Rattle.jams.specs.Jam.{Jamless}
 use Rattle.maps.specs.Built.{Built, Filled, Room}
+use Rattle.maps.proofs.Determined.{jam-of}
 use Rattle.refusals.specs.Numbers.{taken, refused}
-use Rattle.call.specs.Build.{CallFilled, MapsBuilt, jam₁, jam₂, filled}
+use Rattle.call.specs.Build.{MapsBuilt, jam₁, jam₂, filled}
 use Rattle.call.specs.Inner.{Buildable, KeysBuilt, PrefixesBuilt}
 use Rattle.call.proofs.Parts.{part-is, from-part, before-part}
 
@@ -30,7 +31,8 @@ fewer-work : (k n : ℕ) → k ≤ n → workCount k ≤ workCount n
 fewer-work k n h = omega (arith, fewer-cells k n h)
 
 -- a filled map is one by its own cells alone
-filled-part : (seed : ℕ) (items values before after : List ℕ) → cellCount (length items) ≤ length before → Filled seed items values before after
+filled-part : (seed : ℕ) (items values before after : List ℕ) → cellCount (length items) ≤ length before
+    → Filled seed items values before after
     → Filled seed items values (take (cellCount (length items)) before) (take (cellCount (length items)) after)
 filled-part seed items values before after h F =
     let t = length items in
@@ -40,12 +42,15 @@ filled-part seed items values before after h F =
     record {
       valued = λ i m. value-take after t seed (getD items i 0) ∙ F .valued i m;
       untouched = λ j m none. getD-take C after j 0 m ∙ F .untouched j m none;
-      beyond = drop-of-length-le (take C after) {i = C} (omega arith) ∙ sym (drop-of-length-le (take C before) {i = C} (omega arith));
+      beyond =
+          drop-of-length-le (take C after) {i = C} (omega arith)
+          ∙ sym (drop-of-length-le (take C before) {i = C} (omega arith));
       long = l′ ∙ sym l;
     }
 
 -- the part that map 2 is built in, and the work, are long enough for it
-module _ (keys : List ℕ) (b : ℕ) (cells work : List ℕ) (A : Buildable keys b cells work) (c : ℕ) (is : c ≡ cellCount (length keys)) where
+module _ {keys : List ℕ} {b : ℕ} {cells work : List ℕ} (A : Buildable keys b cells work) {c : ℕ}
+    (is : c ≡ cellCount (length keys)) where
   pub prefix-room : Room (prefixItems b keys) (take (length cells - c) (drop c cells)) work
   prefix-room =
       let k = buckets (length keys) b in
@@ -57,17 +62,18 @@ module _ (keys : List ℕ) (b : ℕ) (cells work : List ℕ) (A : Buildable keys
       }
 
   -- what came back stands in the store from cell C(n) on
-  pub prefixes-built : (seed : ℕ) (part work′ : List ℕ) (size : ℕ)
-      → Built seed (prefixItems b keys) (bucketNumbers b keys) (take (length cells - c) (drop c cells)) work size part work′
+  pub prefixes-built : {seed : ℕ} {part work′ : List ℕ} {size : ℕ}
+      → Built seed (prefixItems b keys) (bucketNumbers b keys)
+      (take (length cells - c) (drop c cells)) work size part work′
       → PrefixesBuilt keys b seed cells work size (putMid c (length cells - c) cells part) work′
-  prefixes-built seed part work′ size B =
+  prefixes-built {part = part} B =
       let fits : c ≤ length cells = omega (arith, A .cellsLong) in
       record {
         part = rw (← is, from-part c cells part fits) (rw (part-is c cells) at B);
         kept = rw (← is) (before-part c cells part fits);
       }
 
-module _ (keys : List ℕ) (b seed₁ seed₂ : ℕ) (cells work : List ℕ) (A : Buildable keys b cells work) where
+module _ {keys : List ℕ} {b : ℕ} {cells work : List ℕ} (A : Buildable keys b cells work) where
   abbrev n : ℕ
   n = length keys
 
@@ -80,22 +86,26 @@ module _ (keys : List ℕ) (b seed₁ seed₂ : ℕ) (cells work : List ℕ) (A 
   abbrev all : ℕ
   all = callCells n b
 
-  -- the two parts of the store have their named lengths
-  pub few-buckets : k ≤ n
+  few-buckets : k ≤ n
   few-buckets = buckets-le n b (omega (arith, A .sorted .two))
 
-  jam-of : (seed : ℕ) (items : List ℕ) {values before after work′ work″ : List ℕ} {size : ℕ} → Built seed items values before work′ size after work″
-      → 0 < size → Jammed seed items
-  jam-of seed items B h = let L = B .refused h .0 in (L .0, L .1 .jam)
+  -- map 1 is built, or jammed
+  module _ {seed₁ seed₂ : ℕ} {cells₁ work₁ : List ℕ} {size₁ : ℕ}
+      (B₁ : KeysBuilt keys b seed₁ cells work size₁ cells₁ work₁) where
+    pub jammed-first : 0 < size₁ → {cells′ : List ℕ} → cells′ ≡ cleared all cells₁
+        → MapsBuilt keys b seed₁ seed₂ cells work (refused 5 1) cells′ work₁
+    jammed-first h e =
+        jam₁ (jam-of seed₁ keys B₁ h) refl
+        (e ∙ ap (cleared all) (B₁ .refused h .1) ∙ cleared-over c all cells (omega arith)) (B₁ .swept)
 
-  module _ (cells₁ work₁ : List ℕ) (size₁ : ℕ) (B₁ : KeysBuilt keys b seed₁ cells work size₁ cells₁ work₁) where
-    pub jammed-first : 0 < size₁ → (cells′ : List ℕ) → cells′ ≡ cleared all cells₁ → MapsBuilt keys b seed₁ seed₂ cells work (refused 5 1) cells′ work₁
-    jammed-first h cells′ e =
-        jam₁ (jam-of seed₁ keys B₁ h) refl (e ∙ ap (cleared all) (B₁ .refused h .1) ∙ cleared-over c all cells (omega arith)) (B₁ .swept)
+    -- and map 2 after it
+    module _ (h₁ : size₁ ≤ 0) {cells₂ work₂ : List ℕ} {size₂ : ℕ}
+        (B₂ : PrefixesBuilt keys b seed₂ cells₁ work₁ size₂ cells₂ work₂) where
+      N₁ : Jamless seed₁ keys
+      N₁ = B₁ .accepted (omega arith) .0
 
-    module _ (h₁ : size₁ ≡ 0) (cells₂ work₂ : List ℕ) (size₂ : ℕ) (B₂ : PrefixesBuilt keys b seed₂ cells₁ work₁ size₂ cells₂ work₂) where
       F₁ : Filled seed₁ keys (keyValues b keys) cells cells₁
-      F₁ = B₁ .accepted h₁ .1
+      F₁ = B₁ .accepted (omega arith) .1
 
       -- the work that map 2 leaves is that of map 1, which was longer
       swept : work₂ ≡ cleared (callWork n) work
@@ -105,23 +115,28 @@ module _ (keys : List ℕ) (b seed₁ seed₂ : ℕ) (cells work : List ℕ) (A 
           B₂ .part .swept ∙ ap (cleared w) (B₁ .swept) ∙ cleared-within w (callWork n) work less
 
       -- past the named length nothing of the store changed
-      beyond : (d : List ℕ) → drop (cellCount (length (prefixItems b keys))) d ≡ drop (cellCount (length (prefixItems b keys))) (drop c cells₁)
+      beyond : (d : List ℕ)
+          → (let C = cellCount (length (prefixItems b keys)) in drop C d ≡ drop C (drop c cells₁))
           → drop c cells₂ ≡ d → drop all cells₂ ≡ drop all cells
       beyond d e f =
           sym (drop-drop (cellCount k) c cells₂) ∙ ap (drop (cellCount k)) f ∙ rw (length-prefixes b keys) at e
           ∙ ap (drop (cellCount k)) (F₁ .beyond) ∙ drop-drop (cellCount k) c cells
 
-      pub jammed-second : 0 < size₂ → (cells′ : List ℕ) → cells′ ≡ cleared all cells₂ → MapsBuilt keys b seed₁ seed₂ cells work (refused 5 2) cells′ work₂
-      jammed-second h cells′ e =
+      pub jammed-second : 0 < size₂ → {cells′ : List ℕ} → cells′ ≡ cleared all cells₂
+          → MapsBuilt keys b seed₁ seed₂ cells work (refused 5 2) cells′ work₂
+      jammed-second h e =
           let C = cellCount (length (prefixItems b keys)) in
           let was = B₂ .part .refused h .1 in
           let same = beyond (drop c cells₂) (ap (drop C) was ∙ drop-cleared C C (drop c cells₁) (omega arith)) refl in
-          jam₂ (B₁ .accepted h₁ .0) (jam-of seed₂ (prefixItems b keys) (B₂ .part) h) refl (e ∙ ap (λ (xs : List ℕ). replicate all 0 ++ xs) same) swept
+          jam₂ N₁ (jam-of seed₂ (prefixItems b keys) (B₂ .part) h) refl
+          (e ∙ ap (λ (xs : List ℕ). replicate all 0 ++ xs) same) swept
 
-      pub both-built : size₂ ≡ 0 → MapsBuilt keys b seed₁ seed₂ cells work taken cells₂ work₂
-      both-built h = filled (B₁ .accepted h₁ .0) (B₂ .part .accepted h .0) refl
-          (record {
-            map₁ = rw (B₂ .kept) (filled-part seed₁ keys (keyValues b keys) cells cells₁ (omega (arith, A .cellsLong)) F₁);
-            map₂ = rw (F₁ .beyond) at (B₂ .part .accepted h .1);
+      pub both-built : size₂ ≤ 0 → MapsBuilt keys b seed₁ seed₂ cells work taken cells₂ work₂
+      both-built h =
+          let A₂ = B₂ .part .accepted (omega arith) in
+          let long : c ≤ length cells = omega (arith, A .cellsLong) in
+          filled N₁ (A₂ .0) refl (record {
+            map₁ = rw (B₂ .kept) (filled-part seed₁ keys (keyValues b keys) cells cells₁ long F₁);
+            map₂ = rw (F₁ .beyond) at (A₂ .1);
           })
           swept

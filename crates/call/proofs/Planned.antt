@@ -9,15 +9,16 @@ use Rattle.cells.specs.Cells.{cellCount, mapValue}
 use Rattle.cells.proofs.Values.{value-take}
 use Rattle.tables.specs.Tables.{keyAt}
 use Rattle.tables.specs.Delimiters.{buckets}
-use Rattle.tables.specs.Buckets.{bucketLength}
-use Rattle.items.specs.Items.{Sorted, keyValues, prefixItems, bucketNumbers}
-use Rattle.items.proofs.Values.{row-is, length-prefixes, number-is, row-bucket, bits-small, value-length, value-offset, row-prefix}
+use Rattle.items.specs.Items.{Sorted, keyValues, prefixItems}
+use Rattle.items.proofs.Values.{row-is, length-prefixes, number-is, row-bucket, bits-small, value-length, value-offset}
+use Rattle.items.proofs.Values.{row-prefix}
 use Rattle.call.specs.Build.{CallFilled}
-use Rattle.call.specs.Ask.{row, rowSays, ruleSays}
-use Rattle.call.proofs.Asking.{rule-row}
-use Rattle.call.proofs.Answers.{row-found}
+use Rattle.callask.specs.Ask.{row, rowSays, ruleSays}
+use Rattle.callask.proofs.Asking.{rule-row}
+use Rattle.callask.proofs.Answers.{row-found}
 
-module _ (keys : List ℕ) (b seed₁ seed₂ : ℕ) (cells cells′ : List ℕ) (S : Sorted b keys) (F : CallFilled keys b seed₁ seed₂ cells cells′)
+module _ (keys : List ℕ) (b seed₁ seed₂ : ℕ) (cells cells′ : List ℕ) (S : Sorted b keys)
+    (F : CallFilled keys b seed₁ seed₂ cells cells′)
     (r : ℕ) (h : r < length keys) where
   abbrev n : ℕ
   n = length keys
@@ -48,6 +49,6 @@ module _ (keys : List ℕ) (b seed₁ seed₂ : ℕ) (cells cells′ : List ℕ)
   planned-row =
       let short : value / 256 ≤ 63 = omega (arith, value-length b keys S r h, bits-small b keys S r h) in
       let at : r / b * b + value % 256 ≡ r = ap (λ (o : ℕ). r / b * b + o) (value-offset b keys S r h) ∙ row-is b r in
-      sym (rule-row keys b seed₁ seed₂ cells′ x value value-is (cellCount n) (buckets n b) (getD (prefixItems b keys) (r / b) 0) (r / b) part
-      short refl refl item-is refl bucket-is)
+      sym (rule-row keys b seed₁ seed₂ cells′ x value value-is (cellCount n) (buckets n b)
+      (getD (prefixItems b keys) (r / b) 0) (r / b) part short refl refl item-is refl bucket-is)
       ∙ ap (λ (q : ℕ). rowSays keys q x) at ∙ row-found keys x r h refl

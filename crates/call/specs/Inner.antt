@@ -1,4 +1,4 @@
--- What inner functions of `call` ask for, the tests of the entries passed, and what they leave.
+-- What inner functions of `call` ask for, the tests of the build passed, and what they leave.
 use mathlib.Core.Path.{_≡_}
 use mathlib.Core.List.{List}
 use Prim.Native.Nat.{ℕ, _≤_}
@@ -8,12 +8,7 @@ use Rattle.tables.specs.Lengths.{callCells, callWork}
 use Rattle.items.specs.Items.{Sorted, keyValues, prefixItems, bucketNumbers}
 use Rattle.maps.specs.Built.{Built}
 
-pub record Askable (keys : List ℕ) (b : ℕ) (cells : List ℕ) : Type 0 where
-  pub few : length keys ≤ 32768
-  pub two : 2 ≤ b
-  pub most : b ≤ 256
-  pub cellsLong : callCells (length keys) b ≤ length cells
-
+-- a table in buckets, with room for both maps and the work of building them
 pub record Buildable (keys : List ℕ) (b : ℕ) (cells work : List ℕ) : Type 0 where
   pub sorted : Sorted b keys
   pub cellsLong : callCells (length keys) b ≤ length cells
@@ -24,6 +19,8 @@ abbrev pub KeysBuilt : List ℕ → ℕ → ℕ → List ℕ → List ℕ → �
 KeysBuilt keys b seed cells work size cells′ work′ = Built seed keys (keyValues b keys) cells work size cells′ work′
 
 -- map 2 is built, or jammed, in the part from cell C(n) on, and the part before it is as it was
-pub record PrefixesBuilt (keys : List ℕ) (b seed : ℕ) (cells work : List ℕ) (size : ℕ) (cells′ work′ : List ℕ) : Type 0 where
-  pub part : let c = cellCount (length keys) in Built seed (prefixItems b keys) (bucketNumbers b keys) (drop c cells) work size (drop c cells′) work′
+pub record PrefixesBuilt (keys : List ℕ) (b seed : ℕ) (cells work : List ℕ) (size : ℕ)
+    (cells′ work′ : List ℕ) : Type 0 where
+  pub part : let c = cellCount (length keys) in Built seed (prefixItems b keys) (bucketNumbers b keys)
+      (drop c cells) work size (drop c cells′) work′
   pub kept : let c = cellCount (length keys) in take c cells′ ≡ take c cells

@@ -9,7 +9,8 @@ use refusals::Verdict;
 // Map 1, in the cells before C(n). The answer is the size of its largest jam, 0 where it is built.
 fn build_keys(keys: &[u64], b: usize, seed1: u64, cells: &mut [u16], work: &mut [u16]) -> usize
     requires { ⌜ Buildable (now keys) b (now cells) (now work) ⌝ }
-    ensures { λ r. ⌜ KeysBuilt (now (keys .entry)) b seed1 (now (cells .entry)) (now (work .entry)) r (now (cells .exit)) (now (work .exit)) ⌝ }
+    ensures { λ r. ⌜ KeysBuilt (now (keys .entry)) b seed1 (now (cells .entry)) (now (work .entry)) r
+        (now (cells .exit)) (now (work .exit)) ⌝ }
 {
     let none = [0u16; 1];
     maps::build::build(Items::Keys, b, seed1, keys, &none, &none, cells, work)
@@ -18,7 +19,8 @@ fn build_keys(keys: &[u64], b: usize, seed1: u64, cells: &mut [u16], work: &mut 
 // Map 2, in the part of the store that starts in the middle, at cell C(n).
 fn build_prefixes(keys: &[u64], b: usize, seed2: u64, cells: &mut [u16], work: &mut [u16]) -> usize
     requires { ⌜ Buildable (now keys) b (now cells) (now work) ⌝ }
-    ensures { λ r. ⌜ PrefixesBuilt (now (keys .entry)) b seed2 (now (cells .entry)) (now (work .entry)) r (now (cells .exit)) (now (work .exit)) ⌝ }
+    ensures { λ r. ⌜ PrefixesBuilt (now (keys .entry)) b seed2 (now (cells .entry)) (now (work .entry)) r
+        (now (cells .exit)) (now (work .exit)) ⌝ }
 {
     let none = [0u16; 1];
     let c = cells::cell_count(keys.len());
@@ -44,7 +46,8 @@ fn build_maps(
     work: &mut [u16],
 ) -> Verdict
     requires { ⌜ Buildable (now keys) b (now cells) (now work) ⌝ }
-    ensures { λ r. ⌜ MapsBuilt (now (keys .entry)) b seed1 seed2 (now (cells .entry)) (now (work .entry)) (saidByBuild r) (now (cells .exit)) (now (work .exit)) ⌝ }
+    ensures { λ r. ⌜ MapsBuilt (now (keys .entry)) b seed1 seed2 (now (cells .entry)) (now (work .entry))
+        (saidByBuild r) (now (cells .exit)) (now (work .exit)) ⌝ }
 {
     let all = tables::lengths::call_cells(keys.len(), b);
     if 0 < build_keys(keys, b, seed1, cells, work) {
@@ -67,7 +70,8 @@ pub fn call_build(
     cells: &mut [u16],
     work: &mut [u16],
 ) -> Verdict
-    ensures { λ r. ⌜ CallBuilt (now (keys .entry)) b seed1 seed2 (now (cells .entry)) (now (work .entry)) (saidByBuild r) (now (cells .exit)) (now (work .exit)) ⌝ }
+    ensures { λ r. ⌜ CallBuilt (now (keys .entry)) b seed1 seed2 (now (cells .entry)) (now (work .entry))
+        (saidByBuild r) (now (cells .exit)) (now (work .exit)) ⌝ }
 {
     let n = keys.len();
     if 32768 < n {

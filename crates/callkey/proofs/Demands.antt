@@ -8,13 +8,9 @@ use borrow.Author.Tests.{ltb-false, le-ltb}
 use lib.Dec.{ltb}
 use lib.ListN.{getD}
 use Rattle.basics.proofs.Bools.{differ}
-use Rattle.refusals.proofs.Naming.{refusal-told}
 use Rattle.callkey.specs.Fields.{joined, parted, Fit, none, one}
-use Rattle.callkey.specs.CallKeys.{Said, key, fields, refused, widths, lastSecond, packSays, unpackSays, saidByPacker, saidByUnpacker}
-use Rattle.callkey.specs.Demands.{ComeOutAgain, PacksBack, OneCall, KeyFits, PackerDetermined, UnpackerDetermined}
-use Rattle.callkey.specs.declared.Fields.{Fields}
-use Rattle.callkey.specs.declared.Packed.the-variants as packed
-use Rattle.callkey.specs.declared.Unpacked.the-variants as unpacked
+use Rattle.callkey.specs.CallKeys.{Said, key, fields, refused, widths, lastSecond, packSays, unpackSays}
+use Rattle.callkey.specs.Demands.{ComeOutAgain, PacksBack, OneCall, KeyFits}
 use Rattle.callkey.proofs.Packing.{join-fits, part-join, part-fits, join-part}
 
 -- the fields are within their limits
@@ -33,7 +29,8 @@ within-fits d s t b W =
     one day (one stop (one second (one block none)))
 
 -- by the four tests of the packer
-by-tests : (p q r u : Bool) (n k : ℕ) → cond p (refused 7 0) (cond q (refused 7 0) (cond r (refused 7 0) (cond u (refused 7 0) (key n)))) ≡ key k
+by-tests : (p q r u : Bool) (n k : ℕ)
+    → cond p (refused 7 0) (cond q (refused 7 0) (cond r (refused 7 0) (cond u (refused 7 0) (key n)))) ≡ key k
     → (p ≡ false) × (q ≡ false) × (r ≡ false) × (u ≡ false) × (n ≡ k)
 by-tests false false false false n k e = (refl, refl, refl, refl, cc)
 by-tests true q r u n k e = differ (cc)
@@ -42,11 +39,15 @@ by-tests false false true u n k e = differ (cc)
 by-tests false false false true n k e = differ (cc)
 
 -- what the packer takes is within the limits, and its key is the fields joined
-taken : (d s t b k : ℕ) → packSays d s t b ≡ key k → Within d s t b × (joined widths (d ∷ s ∷ t ∷ b ∷ []) ≡ k)
+taken : (d s t b k : ℕ) → packSays d s t b ≡ key k
+    → Within d s t b × (joined widths (d ∷ s ∷ t ∷ b ∷ []) ≡ k)
 unfolding packSays
 taken d s t b k e =
-    let r = by-tests (ltb (2 ^ 16 - 1) d) (ltb (2 ^ 16 - 1) s) (ltb lastSecond t) (ltb (2 ^ 15 - 1) b) (joined widths (d ∷ s ∷ t ∷ b ∷ [])) k e in (
-      record { day = ltb-false _ _ (r .0); stop = ltb-false _ _ (r .1); second = ltb-false _ _ (r .2); block = ltb-false _ _ (r .3) },
+    let r =
+    by-tests (ltb (2 ^ 16 - 1) d) (ltb (2 ^ 16 - 1) s) (ltb lastSecond t) (ltb (2 ^ 15 - 1) b)
+    (joined widths (d ∷ s ∷ t ∷ b ∷ [])) k e in (
+      record
+          { day = ltb-false _ _ (r .0); stop = ltb-false _ _ (r .1); second = ltb-false _ _ (r .2); block = ltb-false _ _ (r .3) },
       r .4,
     )
 
@@ -56,21 +57,25 @@ come-out d s t b k e = let r = taken d s t b k e in rw (sym (r .1)) (part-join (
 
 -- what the unpacker says of the fields of a key
 abbrev tell : List ℕ → Said
-tell fs = cond (ltb lastSecond (getD fs 2 0)) (refused 7 0) (fields (getD fs 0 0) (getD fs 1 0) (getD fs 2 0) (getD fs 3 0))
+tell fs =
+    cond (ltb lastSecond (getD fs 2 0)) (refused 7 0) (fields (getD fs 0 0) (getD fs 1 0) (getD fs 2 0) (getD fs 3 0))
 
 pub fields-come-out-again : ComeOutAgain
 unfolding unpackSays
-fields-come-out-again d s t b k e = ap tell (come-out d s t b k e) ∙ rw (le-ltb lastSecond t (taken d s t b k e .0 .second))
+fields-come-out-again d s t b k e =
+    ap tell (come-out d s t b k e) ∙ rw (le-ltb lastSecond t (taken d s t b k e .0 .second))
 
 pub two-keys-one-call : OneCall
 two-keys-one-call d s t b d′ s′ t′ b′ k e e′ =
-    let same : d ∷ s ∷ t ∷ b ∷ [] ≡ d′ ∷ s′ ∷ t′ ∷ b′ ∷ [] = sym (come-out d s t b k e) ∙ come-out d′ s′ t′ b′ k e′ in (cc, cc, cc, cc)
+    let same : d ∷ s ∷ t ∷ b ∷ [] ≡ d′ ∷ s′ ∷ t′ ∷ b′ ∷ [] =
+    sym (come-out d s t b k e) ∙ come-out d′ s′ t′ b′ k e′ in (cc, cc, cc, cc)
 
 pub key-fits : KeyFits
 key-fits d s t b k e = let r = taken d s t b k e in rw (sym (r .1)) (join-fits (within-fits d s t b (r .0)))
 
 -- by the unpacker's test
-by-test : (p : Bool) (f₀ f₁ f₂ f₃ d s t b : ℕ) → cond p (refused 7 0) (fields f₀ f₁ f₂ f₃) ≡ fields d s t b
+by-test : (p : Bool) (f₀ f₁ f₂ f₃ d s t b : ℕ)
+    → cond p (refused 7 0) (fields f₀ f₁ f₂ f₃) ≡ fields d s t b
     → (p ≡ false) × (f₀ ≡ d) × (f₁ ≡ s) × (f₂ ≡ t) × (f₃ ≡ b)
 by-test false f₀ f₁ f₂ f₃ d s t b e = (refl, cc, cc, cc, cc)
 by-test true f₀ f₁ f₂ f₃ d s t b e = differ (cc)
@@ -86,24 +91,7 @@ key-packs-back d s t b k h e =
     let fs = parted widths k in
     let r = by-test (ltb lastSecond (getD fs 2 0)) (getD fs 0 0) (getD fs 1 0) (getD fs 2 0) (getD fs 3 0) d s t b e in
     let are : fs ≡ d ∷ s ∷ t ∷ b ∷ [] = cc in
-    let W = limits d s t b (rw are at (part-fits widths k h)) (omega (arith, ltb-false lastSecond (getD fs 2 0) (r .0))) in
+    let W =
+    limits d s t b (rw are at (part-fits widths k h)) (omega (arith, ltb-false lastSecond (getD fs 2 0) (r .0))) in
     rw (le-ltb _ _ (W .day), le-ltb _ _ (W .stop), le-ltb _ _ (W .second), le-ltb _ _ (W .block))
     (ap key (ap (joined widths) (sym are) ∙ join-part widths k h))
-
-pub packer-determined : PackerDetermined
-packer-determined (packed.Key a) (packed.Key b) e = cc
-packer-determined (packed.Key a) (packed.Refused r) e = differ (cc)
-packer-determined (packed.Refused r) (packed.Key b) e = differ (cc)
-packer-determined (packed.Refused r) (packed.Refused q) e = ap packed.Refused (refusal-told r q (cc) (cc))
-
-abbrev made : ℕ → ℕ → ℕ → ℕ → Fields
-made d s t b = record { day = d; stop = s; second = t; block = b }
-
-same-fields : (a b : Fields) → a .day ≡ b .day → a .stop ≡ b .stop → a .second ≡ b .second → a .block ≡ b .block → a ≡ b
-same-fields a b p q r u = let z : made (a .day) (a .stop) (a .second) (a .block) ≡ made (b .day) (b .stop) (b .second) (b .block) = cc in z
-
-pub unpacker-determined : UnpackerDetermined
-unpacker-determined (unpacked.Fields a) (unpacked.Fields b) e = ap unpacked.Fields (same-fields a b (cc) (cc) (cc) (cc))
-unpacker-determined (unpacked.Fields a) (unpacked.Refused r) e = differ (cc)
-unpacker-determined (unpacked.Refused r) (unpacked.Fields b) e = differ (cc)
-unpacker-determined (unpacked.Refused r) (unpacked.Refused q) e = ap unpacked.Refused (refusal-told r q (cc) (cc))

@@ -1,4 +1,5 @@
 -- The laws of the definitions in specs/.
---   Packing: the packing law, once for all widths        Demands: what specs/Demands.antt states
+--   Packing: the packing law, once for all widths        Demands, Determined: what the specs of those names state
 pub mod Packing
 pub mod Demands
+pub mod Determined

@@ -1,7 +1,8 @@
--- The packing law, once for all widths: fields that fit come out again, and a number of as many bits is made of its fields. Assumes nothing.
-use mathlib.Core.Path.{_≡_, refl, ap, ap₂, _∙_}
+-- The packing law, once for all widths: fields that fit come out again, and a number of as many bits is made of its
+-- fields. Assumes nothing.
+use mathlib.Core.Path.{_≡_, refl}
 use mathlib.Core.List.{List, [], _∷_}
-use Prim.Native.Nat.{ℕ, suc, _+_, _*_, _/_, _%_, _^_, _<_, _≤_}
+use Prim.Native.Nat.{ℕ, suc, _*_, _%_, _^_, _<_, _≤_}
 use native.Mathlib.Nat.{mod-lt, mul-le-mul-right, suc-mul}
 use native.Mathlib.Omega.{arith}
 use lib.Pow.{pow-pos, pow-add, high, low, split, shr-lt}
@@ -17,7 +18,8 @@ join-fits (one {w} {f} {ws} {fs} h r) =
 
 pub part-join : {ws fs : List ℕ} → Fit ws fs → parted ws (joined ws fs) ≡ fs
 part-join none = refl
-part-join (one {w} {f} {ws} {fs} h r) = rw (high f (total ws) (join-fits r), low f (total ws) (join-fits r), part-join r)
+part-join (one {w} {f} {ws} {fs} h r) =
+    rw (high f (total ws) (join-fits r), low f (total ws) (join-fits r), part-join r)
 
 pub part-fits : (ws : List ℕ) (x : ℕ) → x < 2 ^ total ws → Fit ws (parted ws x)
 part-fits [] x h = none

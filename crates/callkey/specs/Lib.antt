@@ -2,3 +2,4 @@
 pub mod Fields
 pub mod CallKeys
 pub mod Demands
+pub mod Determined

@@ -1,6 +1,7 @@
 // Call keys (document 01, "Call keys"): day, stop, planned second and block in 64 bits, packed and taken apart.
 //
-// Every function is proved and the crate assumes nothing. No public function has a `requires`: a field that is too large gets refusal 7.
+// Every function is proved and the crate assumes nothing. No public function has a `requires`: a field that is too
+// large gets refusal 7.
 ghost use mathlib.Core.Path.{_≡_};
 ghost use Rattle.callkey.specs.CallKeys.{saidByPacker, packSays, saidByUnpacker, unpackSays};
 use refusals::Refusal;

@@ -1,17 +1,14 @@
 -- Memory that is cleared again: the longer clearing decides. Assumes nothing.
-use mathlib.Core.Path.{_≡_, refl, sym, ap, _∙_}
+use mathlib.Core.Path.{_≡_, sym, ap, _∙_}
 use mathlib.Core.List.{List, _++_, append-assoc}
 use Prim.Native.Nat.{ℕ, _+_, _-_, _≤_}
 use native.Mathlib.Omega.{arith}
-use lib.ListN.{length, drop, replicate, length-replicate, length-append, length-drop, replicate-append-replicate}
-use lib.Seq.{drop-at, drop-drop, drop-append-le}
+use lib.ListN.{drop, replicate, length-replicate, replicate-append-replicate}
+use lib.Seq.{drop-at, drop-drop}
 use Rattle.cells.specs.Memory.{cleared}
 
 abbrev zeroes : ℕ → List ℕ
 zeroes m = replicate m 0
-
-pub length-cleared : (m : ℕ) (xs : List ℕ) → m ≤ length xs → length (cleared m xs) ≡ length xs
-length-cleared m xs h = simp (length-append, length-replicate, length-drop) (omega arith)
 
 -- past a named length memory is as it was
 pub drop-cleared : (m k : ℕ) (xs : List ℕ) → m ≤ k → drop k (cleared m xs) ≡ drop k xs
@@ -31,8 +28,10 @@ pub cleared-within : (m k : ℕ) (xs : List ℕ) → m ≤ k → cleared m (clea
 cleared-within m k xs h =
     let split : m + (k - m) ≡ k = omega arith in
     let zeros : List ℕ = replicate (k - m) 0 in
-    let whole : zeroes k ≡ zeroes m ++ zeros = ap zeroes (sym split) ∙ sym (replicate-append-replicate m (k - m) 0) in
+    let whole : zeroes k ≡ zeroes m ++ zeros =
+    ap zeroes (sym split) ∙ sym (replicate-append-replicate m (k - m) 0) in
     let rest : drop m (cleared k xs) ≡ zeros ++ drop k xs =
     ap (λ (zs : List ℕ). drop m (zs ++ drop k xs)) whole ∙ ap (drop m) (append-assoc (zeroes m) zeros (drop k xs))
     ∙ drop-at (zeroes m) (zeros ++ drop k xs) m (length-replicate m 0) in
-    ap (λ (ys : List ℕ). zeroes m ++ ys) rest ∙ sym (append-assoc (zeroes m) zeros (drop k xs)) ∙ ap (λ (zs : List ℕ). zs ++ drop k xs) (sym whole)
+    ap (λ (ys : List ℕ). zeroes m ++ ys) rest ∙ sym (append-assoc (zeroes m) zeros (drop k xs))
+    ∙ ap (λ (zs : List ℕ). zs ++ drop k xs) (sym whole)

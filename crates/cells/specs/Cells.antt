@@ -28,7 +28,8 @@ pub record Segment (m : ℕ) : Type 0 where
 
 -- the value of a hash: the xor of its three cells
 unfoldable pub valueAt : ℕ → List ℕ → ℕ → ℕ
-valueAt m cells h = bitXor (bitXor (getD cells (cellOf m 0 h) 0) (getD cells (cellOf m 1 h) 0)) (getD cells (cellOf m 2 h) 0)
+valueAt m cells h =
+    bitXor (bitXor (getD cells (cellOf m 0 h) 0) (getD cells (cellOf m 1 h) 0)) (getD cells (cellOf m 2 h) 0)
 
 -- what a map of t items says of an item
 abbrev pub mapValue : List ℕ → ℕ → ℕ → ℕ → ℕ

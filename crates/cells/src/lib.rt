@@ -1,7 +1,8 @@
-// The cells of a static map (document 01, "Static maps"): how many there are for t items, the three that an item touches, and
-// the value that they give it.
+// The cells of a static map (document 01, "Static maps"): how many there are for t items, the three that an item
+// touches, and the value that they give it.
 //
-// Every function is proved and the crate assumes nothing. Each `requires` is a size that the callers have tested, or its reciprocal.
+// Every function is proved and the crate assumes nothing. Each `requires` is a size that the callers have tested, or
+// its reciprocal.
 ghost use mathlib.Core.Path.{_≡_};
 ghost use Prim.Native.Nat.{_*_, _≤_, _<_};
 ghost use lib.ListN.{length};
@@ -12,8 +13,8 @@ use words::remainder::reciprocal;
 use words::remainder::remainder;
 use words::remainder::small_remainder;
 
-// M, the cells of one of the three segments of a map of t items: 42 * t / 100 + 3. With the 3 under the division an ask keeps one number,
-// and not M and M - 3.
+// M, the cells of one of the three segments of a map of t items: 42 * t / 100 + 3. With the 3 under the division an
+// ask keeps one number, and not M and M - 3.
 pub fn segment_size(t: usize) -> usize
     requires { ⌜ t ≤ 32768 ⌝ }
     ensures { λ r. ⌜ (r ≡ segment t) × Segment r ⌝ }
@@ -37,8 +38,8 @@ pub fn work_count(t: usize) -> usize
     2 * cell_count(t) + 2 * t
 }
 
-// The cell that the hash h touches in segment j, of m cells each, from the reciprocal r of m: a map has one, and needs no division for
-// each of its items.
+// The cell that the hash h touches in segment j, of m cells each, from the reciprocal r of m: a map has one, and
+// needs no division for each of its items.
 pub fn cell_from(h: u64, m: usize, r: u64, j: usize) -> usize
     requires { ⌜ Segment m × Reciprocal m r × (j < 3) ⌝ }
     ensures { λ c. ⌜ (c ≡ cellOf m j h) × (c < 3 * m) ⌝ }

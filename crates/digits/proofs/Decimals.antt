@@ -9,6 +9,7 @@ use mathlib.Core.Path.{_≡_, refl, sym, ap, subst, _∙_}
 use lib.Dec.{ltb, leb}
 use lib.ListN.{length, drop, getD, length-append}
 use borrow.Author.Tests.{lt-ltb, le-ltb, le-leb, ltb-false, leb-true}
+use Rattle.basics.proofs.Bools.{differ, not-both}
 use Rattle.digits.specs.Texts.{Reads}
 use Rattle.digits.specs.Numbers.{digitsIn, countIn, decimalText, ended, isDigit, ReadsAmount, plainly}
 use Rattle.digits.specs.Inner.{folded}
@@ -29,10 +30,11 @@ digit d h =
     let b : 48 + d ≤ 57 = omega arith in
     rw (le-ltb (48 + d) 48 a) (le-leb (48 + d) 57 b)
 
-digit-split : (b : ℕ) (p q : Bool) → ltb b 48 ≡ p → leb b 57 ≡ q → cond p false q ≡ true → (48 ≤ b) × (b ≤ 57)
-digit-split b true q e f h = let z : _≡_ {A = ℕ} 0 1 = cc in absurd (omega arith)
+digit-split : (b : ℕ) (p q : Bool) → ltb b 48 ≡ p → leb b 57 ≡ q → cond p false q ≡ true
+    → (48 ≤ b) × (b ≤ 57)
+digit-split b true q e f h = differ (cc)
 digit-split b false true e f h = (omega (arith, ltb-false b 48 e), leb-true b 57 f)
-digit-split b false false e f h = let z : _≡_ {A = ℕ} 0 1 = cc in absurd (omega arith)
+digit-split b false false e f h = differ (cc)
 
 pub digit-range : (b : ℕ) → isDigit b ≡ true → (48 ≤ b) × (b ≤ 57)
 digit-range b h = digit-split b (ltb b 48) (leb b 57) refl refl h
@@ -47,21 +49,24 @@ digits-all (x ∷ xs) h = (h 0 (omega arith), digits-all xs (λ k l. h (suc k) (
 
 -- ---- two runs of digits at one place that are ended by no digit are one run
 
-clash : {A : Type 0} (a b : ℕ) → isDigit a ≡ false → isDigit b ≡ true → a ≡ b → A
-clash a b h g e = let z : true ≡ false = cc in let w : _≡_ {A = ℕ} 0 1 = cc in absurd (omega arith)
+-- no byte is a digit and none
+digit-or-not : {A : Type 0} (a b : ℕ) → isDigit a ≡ false → isDigit b ≡ true → a ≡ b → A
+digit-or-not a b h g e = absurd (not-both g (ap isDigit (sym e) ∙ h))
 
-pub run-same : (xs ys : List ℕ) (a b : ℕ) (r q : List ℕ) → Digits xs → Digits ys → isDigit a ≡ false → isDigit b ≡ false
+pub run-same : (xs ys : List ℕ) (a b : ℕ) (r q : List ℕ) → Digits xs → Digits ys → isDigit a ≡ false
+    → isDigit b ≡ false
     → xs ++ (a ∷ r) ≡ ys ++ (b ∷ q) → (xs ≡ ys) × (a ≡ b) × (r ≡ q)
 run-same [] [] a b r q dx dy ha hb e = (refl, cc, cc)
-run-same [] (y ∷ ys) a b r q dx dy ha hb e = clash a y ha (dy .0) (cc)
-run-same (x ∷ xs) [] a b r q dx dy ha hb e = clash b x hb (dx .0) (cc)
+run-same [] (y ∷ ys) a b r q dx dy ha hb e = digit-or-not a y ha (dy .0) (cc)
+run-same (x ∷ xs) [] a b r q dx dy ha hb e = digit-or-not b x hb (dx .0) (cc)
 run-same (x ∷ xs) (y ∷ ys) a b r q dx dy ha hb e =
     let w = run-same xs ys a b r q (dx .1) (dy .1) ha hb (cc) in (let u = w .0 in cc, w .1, w .2)
 
-pub run-ends : (xs ys : List ℕ) (b : ℕ) (q : List ℕ) → Digits xs → isDigit b ≡ false → xs ≡ ys ++ (b ∷ q) → ⊥
-run-ends [] [] b q dx hb e = let z : _≡_ {A = ℕ} 0 1 = cc in omega arith
-run-ends [] (y ∷ ys) b q dx hb e = let z : _≡_ {A = ℕ} 0 1 = cc in omega arith
-run-ends (x ∷ xs) [] b q dx hb e = clash b x hb (dx .0) (cc)
+pub run-ends : (xs ys : List ℕ) (b : ℕ) (q : List ℕ) → Digits xs → isDigit b ≡ false
+    → xs ≡ ys ++ (b ∷ q) → ⊥
+run-ends [] [] b q dx hb e = differ (cc)
+run-ends [] (y ∷ ys) b q dx hb e = differ (cc)
+run-ends (x ∷ xs) [] b q dx hb e = digit-or-not b x hb (dx .0) (cc)
 run-ends (x ∷ xs) (y ∷ ys) b q dx hb e = run-ends xs ys b q (dx .1) hb (cc)
 
 -- ---- the text of a number
@@ -86,10 +91,12 @@ by-ten n f g = elim (decLt n 10) [ yes h ↦ f h | no h ↦ g (omega arith) ]
 -- more steps change nothing
 counted-enough : (k j n : ℕ) → n ≤ k → n ≤ j → counted k n ≡ counted j n
 counted-enough zero j n hk hj = let h : n < 10 = omega arith in counted-small zero n h ∙ sym (counted-small j n h)
-counted-enough (suc k) zero n hk hj = let h : n < 10 = omega arith in counted-small (suc k) n h ∙ sym (counted-small zero n h)
+counted-enough (suc k) zero n hk hj =
+    let h : n < 10 = omega arith in counted-small (suc k) n h ∙ sym (counted-small zero n h)
 counted-enough (suc k) (suc j) n hk hj =
     by-ten n (λ h. counted-small (suc k) n h ∙ sym (counted-small (suc j) n h))
-    (λ h. counted-more k n h ∙ ap suc (counted-enough k j (n / 10) (omega arith) (omega arith)) ∙ sym (counted-more j n h))
+    (λ h. counted-more k n h ∙ ap suc (counted-enough k j (n / 10) (omega arith) (omega arith))
+    ∙ sym (counted-more j n h))
 
 pub text-small : (n : ℕ) → n < 10 → decimalText n ≡ (48 + n) ∷ []
 unfolding decimalText digitsIn
@@ -107,7 +114,8 @@ text-more n d hn hd =
     rw (c, q, r, glyph-low d hd)
 
 -- what holds of the digits, and of n with one more digit where it holds of n, holds of every number
-pub each : (P : ℕ → Type 0) → ((n : ℕ) → n < 10 → P n) → ((n d : ℕ) → 0 < n → d < 10 → P n → P (n * 10 + d)) → (n : ℕ) → P n
+pub each : (P : ℕ → Type 0) → ((n : ℕ) → n < 10 → P n)
+    → ((n d : ℕ) → 0 < n → d < 10 → P n → P (n * 10 + d)) → (n : ℕ) → P n
 each P one more n = go n n (le-refl n)
   where
     go : (k m : ℕ) → m ≤ k → P m
@@ -176,16 +184,19 @@ text-after a (x ∷ xs) h d =
     ∙ rw (text-more a (x - 48) h (omega arith), e) (append-assoc (decimalText a) (x ∷ []) xs)
 
 -- a run with no leading zero is the text of its number
-pub text-run : (x : ℕ) (xs : List ℕ) → Digits (x ∷ xs) → (x ≡ 48 → xs ≡ []) → decimalText (folded 0 (x ∷ xs)) ≡ x ∷ xs
+pub text-run : (x : ℕ) (xs : List ℕ) → Digits (x ∷ xs) → (x ≡ 48 → xs ≡ [])
+    → decimalText (folded 0 (x ∷ xs)) ≡ x ∷ xs
 text-run x xs d z =
     let w = digit-range x (d .0) in
     let e : 48 + (0 * 10 + (x - 48)) ≡ x = omega arith in
     elim (decLt 48 x) [
-      | yes h ↦ text-after (0 * 10 + (x - 48)) xs (omega arith) (d .1) ∙ rw (text-small (0 * 10 + (x - 48)) (omega arith)) (rw e)
+      | yes h ↦ text-after (0 * 10 + (x - 48)) xs (omega arith) (d .1)
+          ∙ rw (text-small (0 * 10 + (x - 48)) (omega arith)) (rw e)
       | no h ↦ let f : x ≡ 48 = omega arith in rw (z f, text-small (0 * 10 + (x - 48)) (omega arith), e)
     ]
 
-first : (ys zs : List ℕ) (b : ℕ) (xs : List ℕ) → 0 < length ys → ys ++ zs ≡ b ∷ xs → (ws : List ℕ) × (ys ≡ b ∷ ws)
+first : (ys zs : List ℕ) (b : ℕ) (xs : List ℕ) → 0 < length ys → ys ++ zs ≡ b ∷ xs
+    → (ws : List ℕ) × (ys ≡ b ∷ ws)
 first [] zs b xs h e = absurd (omega arith)
 first (y ∷ ys) zs b xs h e = (ys, cc)
 
@@ -198,7 +209,8 @@ text-head = each (λ n. (b : ℕ) (xs : List ℕ) → decimalText n ≡ b ∷ xs
     let z : n ≡ 0 = g b (w .0) (w .1) f in absurd (omega arith))
 
 pub text-zero : (n b : ℕ) (xs : List ℕ) → decimalText n ≡ b ∷ xs → b ≡ 48 → xs ≡ []
-text-zero n b xs e f = let z = text-head n b xs e f in let u : decimalText 0 ≡ 48 ∷ [] = text-small 0 (omega arith) in cc
+text-zero n b xs e f =
+    let z = text-head n b xs e f in let u : decimalText 0 ≡ 48 ∷ [] = text-small 0 (omega arith) in cc
 
 -- one text, one number
 text-same : (m n : ℕ) → decimalText m ≡ decimalText n → m ≡ n
@@ -210,12 +222,15 @@ decimal-unique most e h v w r q hv hw f =
     (sym (append-assoc (decimalText v) (e ∷ []) r) ∙ f ∙ append-assoc (decimalText w) (e ∷ []) q) .0)
 
 -- ---- where a number above the limit is no better than a bad text
-pub amount-reads : (most e : ℕ) (s : List ℕ) (i : ℕ) (r : Amount) → isDigit e ≡ false → ReadsAmount most e s i r
+pub amount-reads : (most e : ℕ) (s : List ℕ) (i : ℕ) (r : Amount) → isDigit e ≡ false
+    → ReadsAmount most e s i r
     → Reads most (ended decimalText e) s i (plainly r)
 unfolding ReadsAmount Reads
 amount-reads most e s i (Is v j) he c = (c .1, c .2)
 amount-reads most e s i (Over j) he c = λ w hw rest f.
     let above : most < c .1 .0 = c .1 .1 in
-    let same : c .1 .0 ≡ w = decimal-unique (c .1 .0) e he (c .1 .0) w (drop j s) rest (omega arith) (omega arith) (sym (c .1 .2 .from .1) ∙ f .1) in
+    let same : c .1 .0 ≡ w =
+    decimal-unique (c .1 .0) e he (c .1 .0) w (drop j s) rest (omega arith) (omega arith)
+    (sym (c .1 .2 .from .1) ∙ f .1) in
     omega arith
 amount-reads most e s i Wrong he c = λ w hw. c w he

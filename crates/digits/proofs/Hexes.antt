@@ -1,5 +1,5 @@
--- The hexadecimal text of a number: the value of a digit's byte, the number of 16 digits, and 16 digits at a position that an end byte follows.
--- Assumes nothing.
+-- The hexadecimal text of a number: the value of a digit's byte, the number of 16 digits, and 16 digits at a position
+-- that an end byte follows. Assumes nothing.
 use Prim.Native.Nat.{ℕ, zero, suc, _+_, _-_, _*_, _/_, _%_, _^_, _<_, _≤_}
 use native.Mathlib.Nat.{pow-suc, pow-le-pow-right}
 use native.Mathlib.Numerals.{add-one}
@@ -21,15 +21,22 @@ use Rattle.digits.proofs.Glyphs.{glyph-low, glyph-high, glyph-range, gl
 
 module _ (b w : ℕ) (e : w ≡ b) where
   pub hexes-low : 48 ≤ w → w < 58 → Hexes b (w - 48)
-  hexes-low h g = record { some = λ l. let f = glyph-low (w - 48) (omega arith) in omega arith; none = λ l. absurd (omega arith) }
+  hexes-low h g = record {
+    some = λ l. let f = glyph-low (w - 48) (omega arith) in omega arith;
+    none = λ l. absurd (omega arith);
+  }
 
   pub hexes-high : 97 ≤ w → w < 103 → Hexes b (w - 87)
-  hexes-high h g = record { some = λ l. let f = glyph-high (w - 87) (omega arith) in omega arith; none = λ l. absurd (omega arith) }
+  hexes-high h g = record {
+    some = λ l. let f = glyph-high (w - 87) (omega arith) in omega arith;
+    none = λ l. absurd (omega arith);
+  }
 
   pub hexes-none : (48 ≤ w → 58 ≤ w) → (97 ≤ w → 103 ≤ w) → Hexes b 16
   hexes-none h g = record {
     some = λ l. absurd (omega arith);
-    none = λ l d k f. ⊎-elim (λ u. let z = h (omega arith) in omega arith) (λ u. let z = g (omega arith) in omega arith) (glyph-range d b k f);
+    none = λ l d k f. ⊎-elim (λ u. let z = h (omega arith) in omega arith)
+        (λ u. let z = g (omega arith) in omega arith) (glyph-range d b k f);
   }
 
 -- ---- 16 digits
@@ -51,12 +58,15 @@ unfolding digitsIn
 digit-at zero v k h = absurd (omega arith)
 digit-at (suc m) v k h = elim (decLt k m) [
   | yes g ↦ let w = digit-at m (v / 16) k g in
-      (w .0, w .1, w .2 ∙ sym (List·getD-append (digitsIn 16 m (v / 16)) (glyph (v % 16) ∷ []) 0 k (omega (arith, digits-length 16 m (v / 16)))))
-  | no g ↦ (v % 16, omega arith, sym (getD-at (digitsIn 16 m (v / 16)) (glyph (v % 16)) [] 0 k (let e = digits-length 16 m (v / 16) in omega arith)))
+      let e = digits-length 16 m (v / 16) in
+      (w .0, w .1, w .2 ∙ sym (List·getD-append (digitsIn 16 m (v / 16)) (glyph (v % 16) ∷ []) 0 k (omega arith)))
+  | no g ↦ let e = digits-length 16 m (v / 16) in
+      (v % 16, omega arith, sym (getD-at (digitsIn 16 m (v / 16)) (glyph (v % 16)) [] 0 k (omega arith)))
 ]
 
 -- lists of one length that begin alike
-append-same : {A : Type 0} (xs ys : List A) (r q : List A) → length xs ≡ length ys → xs ++ r ≡ ys ++ q → (xs ≡ ys) × (r ≡ q)
+append-same : {A : Type 0} (xs ys : List A) (r q : List A) → length xs ≡ length ys → xs ++ r ≡ ys ++ q
+    → (xs ≡ ys) × (r ≡ q)
 append-same [] [] r q h e = (refl, e)
 append-same [] (y ∷ ys) r q h e = absurd (omega arith)
 append-same (x ∷ xs) [] r q h e = absurd (omega arith)
@@ -70,7 +80,8 @@ unfolding digitsIn
 hex-inj zero v w hv hw e = omega arith
 hex-inj (suc k) v w hv hw e =
     let p : 16 ^ suc k ≡ 16 ^ k * 16 = pow-suc 16 k in
-    let s = append-same (digitsIn 16 k (v / 16)) (digitsIn 16 k (w / 16)) (glyph (v % 16) ∷ []) (glyph (w % 16) ∷ [])
+    let s = append-same (digitsIn 16 k (v / 16)) (digitsIn 16 k (w / 16)) (glyph (v % 16) ∷ [])
+    (glyph (w % 16) ∷ [])
     (digits-length 16 k (v / 16) ∙ sym (digits-length 16 k (w / 16))) e in
     let a : v / 16 ≡ w / 16 = hex-inj k (v / 16) (w / 16) (omega arith) (omega arith) (s .0) in
     let t = s .1 in
@@ -82,7 +93,8 @@ hex-inj (suc k) v w hv hw e =
 pub hex-unique : (most e : ℕ) → most ≤ mostWord → Unique most (ended hexText e)
 unfolding hexText
 hex-unique most e h v w r q hv hw f =
-    let a = append-same (hexText v) (hexText w) ((e ∷ []) ++ r) ((e ∷ []) ++ q) (hex-length v ∙ sym (hex-length w))
+    let a = append-same (hexText v) (hexText w) ((e ∷ []) ++ r) ((e ∷ []) ++ q)
+    (hex-length v ∙ sym (hex-length w))
     (sym (append-assoc (hexText v) (e ∷ []) r) ∙ f ∙ append-assoc (hexText w) (e ∷ []) q) in
     hex-inj 16 v w (omega arith) (omega arith) (a .0)
 
@@ -98,9 +110,11 @@ module _ (k v d : ℕ) (h : d ≤ 15) where
   hex-below l = rw (add-one, pow-suc) (omega arith)
 
   pub hex-fits : v < 16 ^ k → k < 16 → v * 16 + d < 2 ^ 64
-  hex-fits l g = let p : 16 ^ k ≤ 16 ^ 15 = pow-le-pow-right (omega arith) {i = k} {j = 15} (omega arith) in omega arith
+  hex-fits l g =
+      let p : 16 ^ k ≤ 16 ^ 15 = pow-le-pow-right (omega arith) {i = k} {j = 15} (omega arith) in omega arith
 
-  pub hex-step : (s : List ℕ) (i : ℕ) → i + k < length s → glyph d ≡ getD s (i + k) 0 → digitsIn 16 k v ≡ slice i (i + k) s
+  pub hex-step : (s : List ℕ) (i : ℕ) → i + k < length s → glyph d ≡ getD s (i + k) 0
+      → digitsIn 16 k v ≡ slice i (i + k) s
       → digitsIn 16 (k + 1) (v * 16 + d) ≡ slice i (i + (k + 1)) s
   hex-step s i l e f =
       let a : i + (k + 1) ≡ i + k + 1 = omega arith in
@@ -115,7 +129,8 @@ module _ (s : List ℕ) (i most e : ℕ) where
   hex-short h v hv rest f = let a = from-length s i (ended hexText e v) rest f in let b = ended-length v in omega arith
 
   -- a byte that is no digit
-  pub hex-none : (k : ℕ) → k < 16 → ((d : ℕ) → d ≤ 15 → glyph d ≡ getD s (i + k) 0 → ⊥) → Reads most (ended hexText e) s i Bad
+  pub hex-none : (k : ℕ) → k < 16 → ((d : ℕ) → d ≤ 15 → glyph d ≡ getD s (i + k) 0 → ⊥)
+      → Reads most (ended hexText e) s i Bad
   unfolding Reads hexText
   hex-none k h out v hv rest f =
       let w = digit-at 16 v k h in
@@ -129,19 +144,23 @@ module _ (s : List ℕ) (i most e : ℕ) where
       let n = hex-length v in
       h (from-at s i (ended hexText e v) rest f 16 (omega (arith, ended-length v)) ∙ getD-at (hexText v) e [] 0 16 n)
 
-  module _ (v : ℕ) (room : i + 17 ≤ length s) (fits : v < 16 ^ 16) (text : digitsIn 16 16 v ≡ slice i (i + 16) s) (last : getD s (i + 16) 0 ≡ e) where
+  module _ (v : ℕ) (room : i + 17 ≤ length s) (fits : v < 16 ^ 16) (text : digitsIn 16 16 v ≡ slice i (i + 16) s)
+      (last : getD s (i + 16) 0 ≡ e) where
     hex-has : Has s i (ended hexText e v) (i + 17)
     unfolding hexText
     hex-has =
         let a : i + 17 ≡ i + 16 + 1 = omega arith in
-        slice-has s i (i + 17) (ended hexText e v) (omega arith) room (rw (text, a, slice-snoc s i (i + 16) (omega arith) (omega arith), last))
+        slice-has s i (i + 17) (ended hexText e v) (omega arith) room
+        (rw (text, a, slice-snoc s i (i + 16) (omega arith) (omega arith), last))
         (ended-length v ∙ omega arith)
 
     -- a number above the limit
     pub hex-over : most < v → Reads most (ended hexText e) s i Bad
     unfolding Reads
     hex-over h w hw rest f =
-        let same : v ≡ w = hex-unique v e (omega arith) v w (drop (i + 17) s) rest (omega arith) (omega arith) (sym (hex-has .from .1) ∙ f .1) in
+        let same : v ≡ w =
+        hex-unique v e (omega arith) v w (drop (i + 17) s) rest (omega arith) (omega arith)
+        (sym (hex-has .from .1) ∙ f .1) in
         omega arith
 
     pub hex-value-is : v ≤ most → Reads most (ended hexText e) s i (Value v (i + 17))

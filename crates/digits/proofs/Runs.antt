@@ -1,5 +1,5 @@
--- A run of digits in a text: the number that it says digit by digit, and whether it is the text of a number that an end byte follows.
--- Assumes nothing.
+-- A run of digits in a text: the number that it says digit by digit, and whether it is the text of a number that an
+-- end byte follows. Assumes nothing.
 use Prim.Native.Nat.{ℕ, suc, _+_, _-_, _*_, _<_, _≤_}
 use native.Mathlib.Numerals.{add-one}
 use native.Mathlib.Decide.{decLt}
@@ -11,12 +11,13 @@ use lib.ListN.{length, drop, getD, length-append, drop-of-length-le}
 use lib.Seq.{slice, slice-cons, length-slice, drop-cons}
 use Rattle.digits.specs.Texts.{From, Has}
 use Rattle.digits.specs.Numbers.{decimalText, ended, isDigit, ReadsAmount}
-use Rattle.digits.specs.Inner.{Run, folded, Counted}
+use Rattle.digits.specs.Inner.{Run, folded, Limited}
 use Rattle.digits.specs.declared.Amount.{Amount}
 use Rattle.digits.specs.declared.Amount.the-variants.{Is, Over, Wrong}
 use Rattle.digits.proofs.Positions.{slice-split, slice-snoc, slice-at, slice-join}
 use Rattle.digits.proofs.Decimals.{Digits, digit-range, digits-all, run-same, run-ends}
-use Rattle.digits.proofs.Decimals.{text-digits, text-some, text-run, text-zero, folded-append, folded-snoc, folded-least}
+use Rattle.digits.proofs.Decimals.{text-digits, text-some, text-run, text-zero, folded-append, folded-snoc}
+use Rattle.digits.proofs.Decimals.{folded-least}
 
 -- a digit of the run, after the digits before it
 pub record Digit (s : List ℕ) (i j k v d : ℕ) : Type 0 where
@@ -24,17 +25,20 @@ pub record Digit (s : List ℕ) (i j k v d : ℕ) : Type 0 where
   pub step : v * 10 + (d - 48) ≡ folded 0 (slice i (k + 1) s)
   pub large : (most : ℕ) → most < v * 10 + (d - 48) → most < folded 0 (slice i j s)
 
-pub run-digit : (s : List ℕ) (i j : ℕ) → Run s i j → (k v d : ℕ) → i ≤ k → k < j → v ≡ folded 0 (slice i k s) → d ≡ getD s k 0 → Digit s i j k v d
+pub run-digit : (s : List ℕ) (i j : ℕ) → Run s i j → (k v d : ℕ) → i ≤ k → k < j
+    → v ≡ folded 0 (slice i k s) → d ≡ getD s k 0 → Digit s i j k v d
 run-digit s i j run k v d h g e f =
     let w = run .within in
     let digit : isDigit d ≡ true = ap isDigit f ∙ run .digits k h g in
-    let step : v * 10 + (d - 48) ≡ folded 0 (slice i (k + 1) s) = rw (slice-snoc s i k h (omega arith), folded-snoc, ← e, f) in
+    let step : v * 10 + (d - 48) ≡ folded 0 (slice i (k + 1) s) =
+    rw (slice-snoc s i k h (omega arith), folded-snoc, ← e, f) in
     record {
       range = digit-range d digit;
       step = step;
       large = λ most l.
           let a : folded 0 (slice i j s) ≡ folded (folded 0 (slice i (k + 1) s)) (slice (k + 1) j s) =
-          ap (folded 0) (slice-split s i (k + 1) j (omega arith) (omega arith) w) ∙ folded-append 0 (slice i (k + 1) s) (slice (k + 1) j s) in
+          ap (folded 0) (slice-split s i (k + 1) j (omega arith) (omega arith) w)
+          ∙ folded-append 0 (slice i (k + 1) s) (slice (k + 1) j s) in
           let b = folded-least (folded 0 (slice i (k + 1) s)) (slice (k + 1) j s) in
           omega arith;
     }
@@ -60,13 +64,16 @@ module _ (s : List ℕ) (i j e : ℕ) (run : Run s i j) where
       sym (slice-join s i j (run .order) (run .within)) ∙ f .1 ∙ append-assoc (decimalText v) (e ∷ []) rest in
       elim (decLt j (length s)) [
         | yes h ↦
-            let b : slice i j s ++ (getD s j 0 ∷ drop (suc j) s) ≡ decimalText v ++ (e ∷ rest) = ap (λ (l : List ℕ). slice i j s ++ l)
+            let b : slice i j s ++ (getD s j 0 ∷ drop (suc j) s) ≡ decimalText v ++ (e ∷ rest) =
+            ap (λ (l : List ℕ). slice i j s ++ l)
             (sym (drop-cons s j 0 h)) ∙ a in
-            let w = run-same (slice i j s) (decimalText v) (getD s j 0) e (drop (suc j) s) rest run-digits (text-digits v) (run .stop h) he b in
+            let w = run-same (slice i j s) (decimalText v) (getD s j 0) e (drop (suc j) s) rest run-digits
+            (text-digits v) (run .stop h) he b in
             (h, w .0, w .1)
         | no h ↦
             let b : slice i j s ≡ decimalText v ++ (e ∷ rest) =
-            sym (append-nil (slice i j s)) ∙ ap (λ (l : List ℕ). slice i j s ++ l) (sym (drop-of-length-le s {i = j} (omega arith))) ∙ a in
+            sym (append-nil (slice i j s))
+            ∙ ap (λ (l : List ℕ). slice i j s ++ l) (sym (drop-of-length-le s {i = j} (omega arith))) ∙ a in
             absurd (run-ends (slice i j s) (decimalText v) e rest run-digits he b)
       ]
 
@@ -91,7 +98,8 @@ module _ (s : List ℕ) (i j e : ℕ) (run : Run s i j) where
     unfolding ReadsAmount
     none-zero h g v he rest f =
         let w = whole v rest he f .1 in
-        let a : decimalText v ≡ getD s i 0 ∷ slice (suc i) j s = sym w ∙ slice-cons i j s 0 (omega arith) (run .within) in
+        let a : decimalText v ≡ getD s i 0 ∷ slice (suc i) j s =
+        sym w ∙ slice-cons i j s 0 (omega arith) (run .within) in
         let b : length (slice (suc i) j s) ≡ 0 = ap length (text-zero v (getD s i 0) (slice (suc i) j s) a h) in
         omega (arith, length-slice (suc i) j s (run .within))
 
@@ -108,12 +116,17 @@ module _ (s : List ℕ) (i j e : ℕ) (run : Run s i j) where
 
     run-has : Has s i (ended decimalText e (folded 0 (slice i j s))) (j + 1)
     run-has = record {
-      from = (omega (arith, run .order), slice-join s i j (run .order) (run .within) ∙ rw (drop-cons s j 0 h, run-text, last, append-assoc, add-one));
+      from = (
+        omega (arith, run .order),
+        slice-join s i j (run .order) (run .within)
+            ∙ rw (drop-cons s j 0 h, run-text, last, append-assoc, add-one),
+      );
       to = rw (run-text, length-append) (omega (arith, length-slice i j s (run .within), run .order));
     }
 
-    pub run-amount : (most : ℕ) (r : Amount) → isDigit e ≡ false → Counted most (folded 0 (slice i j s)) (j + 1) r → ReadsAmount most e s i r
-    unfolding ReadsAmount Counted
+    pub run-amount : (most : ℕ) (r : Amount) → isDigit e ≡ false
+        → Limited most (folded 0 (slice i j s)) (j + 1) r → ReadsAmount most e s i r
+    unfolding ReadsAmount Limited
     run-amount most (Is v k) he x = (he, rw (x .0) (x .1), rw (x .0, x .2) run-has)
     run-amount most (Over k) he x = (he, (folded 0 (slice i j s), x .0, rw (x .1) run-has))
     run-amount most Wrong he x = absurd x

@@ -10,7 +10,8 @@ use Rattle.digits.specs.declared.Next.{Next}
 
 -- `read_decimal`
 abbrev pub DecimalDetermined : Type 0
-DecimalDetermined = (most e : ℕ) (s : List ℕ) (i : ℕ) (r q : Amount) → ReadsAmount most e s i r → ReadsAmount most e s i q → r ≡ q
+DecimalDetermined = (most e : ℕ) (s : List ℕ) (i : ℕ) (r q : Amount)
+    → ReadsAmount most e s i r → ReadsAmount most e s i q → r ≡ q
 
 -- `read_hex`, whose limit is a 64-bit number
 abbrev pub HexDetermined : Type 0
@@ -19,4 +20,5 @@ HexDetermined = (most e : ℕ) (s : List ℕ) (i : ℕ) (r q : Read) → most �
 
 -- every writer
 abbrev pub WriterDetermined : Type 0
-WriterDetermined = (t out : List ℕ) (i : ℕ) (a b : List ℕ) (r q : Next) → Writes t out i a r → Writes t out i b q → (r ≡ q) × (a ≡ b)
+WriterDetermined = (t out : List ℕ) (i : ℕ) (a b : List ℕ) (r q : Next)
+    → Writes t out i a r → Writes t out i b q → (r ≡ q) × (a ≡ b)

@@ -1,4 +1,5 @@
--- What the contracts of inner functions cite: a run of digits, the number that it says, and the value of one hexadecimal digit.
+-- What the contracts of inner functions cite: a run of digits, the number that it says, and the value of one
+-- hexadecimal digit.
 use Prim.Native.Nat.{ℕ, _+_, _-_, _*_, _<_, _≤_}
 use mathlib.Core.Bool.{true, false}
 use mathlib.Core.List.{List, [], _∷_}
@@ -21,10 +22,10 @@ folded a [] = a
 folded a (b ∷ bs) = folded (a * 10 + (b - 48)) bs
 
 -- v, if it is at most `most`, and the position j
-unfoldable pub Counted : ℕ → ℕ → ℕ → Amount → Type 0
-Counted most v j (Is w k) = (w ≡ v) × (v ≤ most) × (k ≡ j)
-Counted most v j (Over k) = (most < v) × (k ≡ j)
-Counted most v j Wrong = ⊥
+unfoldable pub Limited : ℕ → ℕ → ℕ → Amount → Type 0
+Limited most v j (Is w k) = (w ≡ v) × (v ≤ most) × (k ≡ j)
+Limited most v j (Over k) = (most < v) × (k ≡ j)
+Limited most v j Wrong = ⊥
 
 -- r is the number of the hexadecimal digit b, or above 15 where b is none
 pub record Hexes (b r : ℕ) : Type 0 where

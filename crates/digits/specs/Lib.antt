@@ -1,4 +1,5 @@
--- The definitions that the contracts of `digits` cite: texts at a position, the texts of numbers, and that the contracts leave one result.
+-- The definitions that the contracts of `digits` cite: texts at a position, the texts of numbers, and that the
+-- contracts leave one result.
 pub mod Texts
 pub mod Numbers
 pub mod Inner

@@ -19,7 +19,8 @@ unfoldable pub digitsIn : ℕ → ℕ → ℕ → List ℕ
 digitsIn b zero n = []
 digitsIn b (suc k) n = digitsIn b k (n / b) ++ (glyph (n % b) ∷ [])
 
--- how many digits n has in decimal: one if it is below ten (the Bool says so), otherwise one more than n / 10 has; k bounds the steps
+-- how many digits n has in decimal: one if it is below ten (the Bool says so), otherwise one more than n / 10 has; k
+-- bounds the steps
 unfoldable pub countIn : ℕ → Bool → ℕ → ℕ
 countIn zero b n = 1
 countIn (suc k) true n = 1
@@ -48,7 +49,8 @@ isDigit b = cond (ltb b 48) false (leb b 57)
 -- what a reader says of s at i that takes a decimal number of any size and the byte e after it, which is no digit
 unfoldable pub ReadsAmount : ℕ → ℕ → List ℕ → ℕ → Amount → Type 0
 ReadsAmount most e s i (Is v j) = (isDigit e ≡ false) × (v ≤ most) × Has s i (ended decimalText e v) j
-ReadsAmount most e s i (Over j) = (isDigit e ≡ false) × ((v : ℕ) × (most < v) × Has s i (ended decimalText e v) j)
+ReadsAmount most e s i (Over j) =
+    (isDigit e ≡ false) × ((v : ℕ) × (most < v) × Has s i (ended decimalText e v) j)
 ReadsAmount most e s i Wrong = (v : ℕ) → isDigit e ≡ false → Hasnt s i (ended decimalText e v)
 
 -- the same where a number above the limit is no better than a bad text

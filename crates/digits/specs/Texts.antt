@@ -1,4 +1,5 @@
--- Texts at a position of a slice of bytes, and what their readers and writers say. A text is a list of bytes, and a byte is a number.
+-- Texts at a position of a slice of bytes, and what their readers and writers say. A text is a list of bytes, and a
+-- byte is a number.
 use Prim.Native.Nat.{ℕ, zero, suc, _+_, _<_, _≤_}
 use Prim.Native.Char.{code}
 use Prim.Native.String.{String, len, charAt}
@@ -41,7 +42,8 @@ Reads most text s i Bad = (v : ℕ) → v ≤ most → Hasnt s i (text v)
 abbrev pub placed : List ℕ → ℕ → List ℕ → List ℕ
 placed out i t = take i out ++ (t ++ drop (i + length t) out)
 
--- what a writer of the text t at i says, that got `out` and leaves `after`: it writes all of t, or nothing where there is no room
+-- what a writer of the text t at i says, that got `out` and leaves `after`: it writes all of t, or nothing where
+-- there is no room
 unfoldable pub Writes : List ℕ → List ℕ → ℕ → List ℕ → Next → Type 0
 Writes t out i after (At j) = (j ≡ i + length t) × (j ≤ length out) × (after ≡ placed out i t)
 Writes t out i after Off = (length out < i + length t) × (after ≡ out)

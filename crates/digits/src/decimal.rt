@@ -5,7 +5,7 @@ ghost use lib.ListN.{length};
 ghost use lib.Seq.{slice};
 ghost use Rattle.digits.specs.Texts.{Writes};
 ghost use Rattle.digits.specs.Numbers.{isDigit, decimalText, ended, ReadsAmount};
-ghost use Rattle.digits.specs.Inner.{Run, folded, Counted};
+ghost use Rattle.digits.specs.Inner.{Run, folded, Limited};
 use crate::Amount;
 use crate::Next;
 use crate::put;
@@ -38,7 +38,7 @@ fn run_end(s: &[u8], i: usize) -> usize
 // The number that the run of digits from i to j says. It stops at the limit, so that no number wraps.
 fn number(s: &[u8], i: usize, j: usize, most: u64) -> Amount
     requires { ⌜ Run (now s) i j × (j < length (now s)) ⌝ }
-    ensures { λ r. ⌜ Counted most (folded 0 (slice i j (now (s .entry)))) (j + 1) r ⌝ }
+    ensures { λ r. ⌜ Limited most (folded 0 (slice i j (now (s .entry)))) (j + 1) r ⌝ }
 {
     let mut k = i;
     let mut v: u64 = 0;

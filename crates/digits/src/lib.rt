@@ -1,5 +1,5 @@
-// Numbers as text (document 01, "`rowcheck`"): decimal without leading zeros, and 16 lower-case hexadecimal digits. They are read
-// from a slice of bytes at a position and written there, each with the byte that ends it.
+// Numbers as text (document 01, "`rowcheck`"): decimal without leading zeros, and 16 lower-case hexadecimal digits.
+// They are read from a slice of bytes at a position and written there, each with the byte that ends it.
 //
 // Every function is proved and the crate assumes nothing. No public function has a `requires`.
 ghost use mathlib.Core.Path.{_≡_};
@@ -43,7 +43,8 @@ pub enum Next {
 }
 
 impl Next {
-    // The position, or the other where there is none. For texts one after the other in a room that was tested for them all.
+    // The position, or the other where there is none. For texts one after the other in a room that was tested for
+    // them all.
     pub fn or(self, other: usize) -> usize
         ensures { λ r. ⌜ r ≡ nextOr self other ⌝ }
     {

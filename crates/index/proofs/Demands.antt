@@ -1,10 +1,8 @@
 -- The customer's demands, proved. Assumes nothing.
-use mathlib.Core.Path.{_≡_, refl, sym, ap, _∙_}
-use mathlib.Core.Bool.{Bool, true}
+use mathlib.Core.Path.{_≡_, sym, ap, _∙_}
 use mathlib.Core.List.{List}
 use mathlib.Core.Logic.{_↔_}
-use Prim.Native.Nat.{ℕ, _-_, _^_, _≤_, _<_}
-use native.Mathlib.Nat.{le-refl}
+use Prim.Native.Nat.{ℕ, _-_, _≤_, _<_}
 use native.Mathlib.Omega.{arith}
 use lib.ListN.{length}
 use Rattle.refusals.specs.Numbers.{BuildSaid, taken, refused}
@@ -12,35 +10,35 @@ use Rattle.refusals.proofs.Naming.{not-taken}
 use Rattle.words.specs.Fat.{binaryDigits, done}
 use Rattle.words.proofs.Probing.{probes-from}
 use Rattle.tables.specs.Tables.{keyAt, Table, smaller, sharedByAll}
-use Rattle.tables.specs.Lengths.{handleCount}
 use Rattle.tables.proofs.Rising.{no-fall-table, keys-rise, keys-above}
-use Rattle.cells.specs.Cells.{mapValue}
-use Rattle.items.specs.Items.{prefixItems, handleItems}
+use Rattle.items.specs.Items.{prefixItems}
 use Rattle.jams.specs.Jam.{Jammed}
 use Rattle.call.specs.Build.{MapsBuilt, jam₁, jam₂, CallBuilt}
 use Rattle.call.specs.Build as cb
-use Rattle.call.specs.Ask.{CallSaid, row, absent, callSays, ruleSays}
-use Rattle.call.proofs.Asking.{says-rule}
-use Rattle.call.proofs.Answers.{rule-absent, rule-said}
-use Rattle.call.proofs.Planned.{planned-row}
-use Rattle.neighbour.specs.Build.{StoresBuilt, jam₃, NeighbourBuilt}
+use Rattle.callask.specs.Ask.{row, absent, callSays, ruleSays}
+use Rattle.callask.proofs.Answers.{rule-absent, rule-said}
+use Rattle.neighbour.specs.Build.{jam₃}
 use Rattle.neighbour.specs.Build as nb
-use Rattle.walks.specs.Walk.{Walk, pathWalk}
-use Rattle.neighbour.specs.Ask.{place, standsAt, neighbourSays}
-use Rattle.neighbour.proofs.Asking.{stands-iff, path-probes, stored-says, sizes-pass, ask-six}
-use Rattle.walks.proofs.Answering.{stored-walk}
-use Rattle.walks.proofs.Deciding.{smaller-low, smaller-high, smaller-most}
-use Rattle.index.specs.Demands.{Words, NotIn, CallRefusesJams, NeighbourRefusesJams, PlannedGetsItsRow, RowsAreSorted, OthersAreAbsent, OneKeyForEachRow, Monotone, Searched, SearchIsExact, SixAtMost}
-use Rattle.index.proofs.Accepted.{CallAccepted, call-accepted, accepted-sorted, accepted-askable, NeighbourAccepted, neighbour-accepted}
+use Rattle.walks.specs.Walk.{Walk}
+use Rattle.neighbour.specs.Ask.{standsAt}
+use Rattle.neighbour.proofs.Asking.{stands-iff, path-probes, ask-six}
+use Rattle.index.specs.Answers.{Words, probesOf}
+use Rattle.index.specs.Demands.{CallRefusesJams, NeighbourRefusesJams, PlannedGetsItsRow, RowsAreSorted}
+use Rattle.index.specs.Demands.{OthersAreAbsent, OneKeyForEachRow, Monotone, SearchIsExact, SixAtMost}
+use Rattle.index.proofs.Accepted.{call-accepted, neighbour-accepted}
+use Rattle.index.proofs.Answering.{row-smaller, planned-told, by-rule}
+use Rattle.index.proofs.Answering.{calls-answer, counts-answer, walks-agree}
 
-never : {A : Type 0} {said : BuildSaid} {k i l j : ℕ} → said ≡ refused k i → said ≡ refused l j → (i ≡ j → ⊥) → A
+never : {A : Type 0} {said : BuildSaid} {k i l j : ℕ} → said ≡ refused k i → said ≡ refused l j
+    → (i ≡ j → ⊥) → A
 never e f apart = absurd (apart (cc))
 
 one-two : _≡_ {A = ℕ} 1 2 → ⊥
 one-two e = omega arith
 
 -- demand 1
-call-jams : (keys : List ℕ) (b s t : ℕ) (cells work : List ℕ) (said : BuildSaid) (c′ w′ : List ℕ) → MapsBuilt keys b s t cells work said c′ w′
+call-jams : (keys : List ℕ) (b s t : ℕ) (cells work : List ℕ) (said : BuildSaid) (c′ w′ : List ℕ)
+    → MapsBuilt keys b s t cells work said c′ w′
     → ((said ≡ refused 5 1) ↔ Jammed s keys)
     × ((said ≡ refused 5 2) ↔ ((Jammed s keys → ⊥) × Jammed t (prefixItems b keys)))
     × ((said ≡ taken) ↔ ((Jammed s keys → ⊥) × (Jammed t (prefixItems b keys) → ⊥)))
@@ -62,66 +60,61 @@ call-jams keys b s t cells work said c′ w′ (cb.filled N M e F w) = (
 
 pub call-refuses-jams : CallRefusesJams
 call-refuses-jams keys b s t cells work said c′ w′ (cb.refusal k i j e c w) passed = not-taken k i j passed
-call-refuses-jams keys b s t cells work said c′ w′ (cb.verdict j M) passed = call-jams keys b s t cells work said c′ w′ M
+call-refuses-jams keys b s t cells work said c′ w′ (cb.verdict j M) passed =
+    call-jams keys b s t cells work said c′ w′ M
 
 pub neighbour-refuses-jams : NeighbourRefusesJams
-neighbour-refuses-jams keys s h l r w said h′ l′ r′ w′ (nb.refusal k i j e a b c d) passed = not-taken k i j passed
+neighbour-refuses-jams keys s h l r w said h′ l′ r′ w′ (nb.refusal k i j e a b c d) passed =
+    not-taken k i j passed
 neighbour-refuses-jams keys s h l r w said h′ l′ r′ w′ (nb.verdict j (jam₃ J e a b c d)) passed =
     (((λ f. J), (λ K. e)), ((λ f. not-taken 5 3 e f), (λ K. absurd (K J))))
 neighbour-refuses-jams keys s h l r w said h′ l′ r′ w′ (nb.verdict j (nb.filled N e F el er d)) passed =
     (((λ f. not-taken 5 3 f e), (λ K. absurd (N (K .0) (K .1)))), ((λ f. (λ K. N (K .0) (K .1))), (λ K. e)))
 
 -- demand 2
-module _ (keys : List ℕ) (b seed₁ seed₂ : ℕ) (cells work cells′ work′ : List ℕ) (B : CallBuilt keys b seed₁ seed₂ cells work taken cells′ work′) where
-  A : CallAccepted keys b seed₁ seed₂ cells cells′
-  A = call-accepted keys b seed₁ seed₂ cells work cells′ work′ B
+module _ (keys : List ℕ) (b seed₁ seed₂ : ℕ) (cells work cells′ work′ : List ℕ)
+    (B : CallBuilt keys b seed₁ seed₂ cells work taken cells′ work′) where
+  table : Words keys → Table keys
+  table w = no-fall-table keys w (call-accepted keys b seed₁ seed₂ cells work cells′ work′ B .rises)
 
-  by-rule : (x : ℕ) → callSays keys b seed₁ seed₂ cells′ x ≡ ruleSays keys b seed₁ seed₂ cells′ x
-  by-rule x = says-rule keys b seed₁ seed₂ cells′ x (accepted-askable A)
+  ruled : (x : ℕ) → callSays keys b seed₁ seed₂ cells′ x ≡ ruleSays keys b seed₁ seed₂ cells′ x
+  ruled = by-rule keys b seed₁ seed₂ cells work cells′ work′ B
 
-  planned : Words keys → (r : ℕ) → r < length keys → callSays keys b seed₁ seed₂ cells′ (keyAt keys r) ≡ row r
-  planned w r h = by-rule (keyAt keys r) ∙ planned-row keys b seed₁ seed₂ cells cells′ (accepted-sorted A w) (A .filled) r h
+  planned : Words keys → (r : ℕ) → r < length keys
+      → callSays keys b seed₁ seed₂ cells′ (keyAt keys r) ≡ row r
+  planned w r h =
+      calls-answer keys b seed₁ seed₂ cells work cells′ work′ B w (keyAt keys r)
+      ∙ planned-told row absent keys (table w) r h
 
-  others : (x : ℕ) → NotIn x keys → callSays keys b seed₁ seed₂ cells′ x ≡ absent
-  others x none = by-rule x ∙ rule-absent keys x none b seed₁ seed₂ cells′
+  said-row : (x i : ℕ) → callSays keys b seed₁ seed₂ cells′ x ≡ row i
+      → (i < length keys) × (keyAt keys i ≡ x)
+  said-row x i e = rule-said keys x b seed₁ seed₂ cells′ i (sym (ruled x) ∙ e)
 
-  said-row : (x i : ℕ) → callSays keys b seed₁ seed₂ cells′ x ≡ row i → (i < length keys) × (keyAt keys i ≡ x)
-  said-row x i e = rule-said keys x b seed₁ seed₂ cells′ i (sym (by-rule x) ∙ e)
-
-  module _ (w : Words keys) where
-    T : Table keys
-    T = no-fall-table keys w (A .rises)
-
-    -- the number of smaller keys is the row
-    sorted : (r : ℕ) → r < length keys → smaller keys (keyAt keys r) ≡ r
-    sorted r h =
-        let x = keyAt keys r in
-        let c = smaller keys x in
-        let not-above : ¬ (r < c) = λ g. (omega (arith, smaller-low keys T x r g)) in
-        let not-below : ¬ (c < r) = λ g. (omega (arith, smaller-high keys T x c (le-refl c) (omega arith), keys-above keys T c r g h)) in
-        omega arith
-
-    in-order : (x y i j : ℕ) → (i < length keys) × (keyAt keys i ≡ x) → (j < length keys) × (keyAt keys j ≡ y) → (x < y) ↔ (i < j)
-    in-order x y i j p q = (
-      (λ less. let no : ¬ (j ≤ i) = λ g. (omega (arith, keys-rise keys T j i g (p .0))) in omega arith),
-      (λ less. omega (arith, keys-above keys T i j less (q .0))),
-    )
+  in-order : Words keys → (x y i j : ℕ) → (i < length keys) × (keyAt keys i ≡ x)
+      → (j < length keys) × (keyAt keys j ≡ y) → (x < y) ↔ (i < j)
+  in-order w x y i j p q = (
+    (λ less. let no : ¬ (j ≤ i) = λ g. (omega (arith, keys-rise keys (table w) j i g (p .0))) in omega arith),
+    (λ less. omega (arith, keys-above keys (table w) i j less (q .0))),
+  )
 
 pub planned-gets-its-row : PlannedGetsItsRow
 planned-gets-its-row keys b s t cells work cells′ work′ w B = planned keys b s t cells work cells′ work′ B w
 
 pub rows-are-sorted : RowsAreSorted
-rows-are-sorted keys b s t cells work cells′ work′ w B = sorted keys b s t cells work cells′ work′ B w
+rows-are-sorted keys b s t cells work cells′ work′ w B =
+    row-smaller keys (table keys b s t cells work cells′ work′ B w)
 
 pub others-are-absent : OthersAreAbsent
-others-are-absent keys b s t cells work cells′ work′ B x h none = others keys b s t cells work cells′ work′ B x none
+others-are-absent keys b s t cells work cells′ work′ B x h none =
+    ruled keys b s t cells work cells′ work′ B x ∙ rule-absent keys x none b s t cells′
 
 pub one-key-for-each-row : OneKeyForEachRow
 one-key-for-each-row keys b s t cells work cells′ work′ B = said-row keys b s t cells work cells′ work′ B
 
 pub monotone : Monotone
 monotone keys b s t cells work cells′ work′ w B x y i j e f =
-    in-order keys b s t cells work cells′ work′ B w x y i j (said-row keys b s t cells work cells′ work′ B x i e)
+    in-order keys b s t cells work cells′ work′ B w x y i j
+    (said-row keys b s t cells work cells′ work′ B x i e)
     (said-row keys b s t cells work cells′ work′ B y j f)
 
 -- 63 - L has at most six binary digits
@@ -133,17 +126,15 @@ digits-six L =
 -- demand 3
 pub search-is-exact : SearchIsExact
 search-is-exact keys seed handles left right work h l r w′ w two B x hx =
-    let A = neighbour-accepted keys seed handles left right work h l r w′ B in
-    let T = no-fall-table keys w (A .rises) in
-    let c = smaller keys x in
-    let walked = stored-walk keys T x (mapValue h (handleCount (length keys)) seed) l r (A .stored) in (
-      length (pathWalk keys x .probed),
+    let T = no-fall-table keys w (neighbour-accepted keys seed handles left right work h l r w′ B .rises) in (
+      probesOf keys x,
       (
-        standsAt keys x c,
+        standsAt keys x (smaller keys x),
         record {
-          says =
-              sizes-pass keys h l r seed x (A .few) (A .handlesLong) (A .leftLong) (A .rightLong) ∙ stored-says keys T h l r seed x (A .stored);
-          counted = ap (λ (v : Walk). length (v .probed)) (sym walked);
+          says = counts-answer keys seed handles left right work h l r w′ w B x;
+          counted =
+              ap (λ (v : Walk). length (v .probed))
+              (sym (walks-agree keys seed handles left right work h l r w′ w B x));
           few = path-probes keys T x;
           six = digits-six (sharedByAll keys);
           where-it-stands = stands-iff keys T x;
@@ -152,4 +143,5 @@ search-is-exact keys seed handles left right work h l r w′ w two B x hx =
     )
 
 pub six-at-most : SixAtMost
-six-at-most keys seed handles left right x before probes stands e = ask-six before probes stands keys handles left right seed x e
+six-at-most keys seed handles left right x before probes stands e =
+    ask-six before probes stands keys handles left right seed x e

@@ -1,6 +1,9 @@
 -- The proofs of what specs/ states.
---   Accepted: what an accepted build says of its inputs and leaves        Demands: the customer's demands        Worked: the worked cases
+--   Accepted:  what an accepted build says of its inputs and leaves
+--   Answering: what the stores of accepted builds answer
+--   Demands:   the customer's demands
+--   Worked:    the worked cases
 pub mod Accepted
+pub mod Answering
 pub mod Demands
 pub mod Worked
-pub mod Determined

@@ -1,8 +1,9 @@
-// The library's face: what a customer links. It hands on the packer and unpacker of call keys, the builds and asks of both indexes, the bucket
-// view, and the lengths of the stores to lend. None of them has a `requires`.
+// The library's face: what a customer links. It hands on the packer and unpacker of call keys, the builds and asks of
+// both indexes, the bucket view, and the lengths of the stores to lend. None of them has a `requires`.
 //
-// specs/Demands.antt states the customer's demands of these entries, specs/Worked.antt the worked cases of document 01; proofs/ proves them.
-pub use call::ask::CallAnswer;
+// specs/Demands.antt states the customer's demands of these entries, specs/Worked.antt the worked cases of document
+// 01; proofs/ proves them.
+pub use call::CallAnswer;
 pub use call::call_ask;
 pub use call::call_build;
 pub use callkey::Fields;

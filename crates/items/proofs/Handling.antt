@@ -1,4 +1,5 @@
--- What stands at each number of map 3, and that the stores, where they hold the bounds, lead to the split of each item. Assumes nothing.
+-- What stands at each number of map 3, and that the stores, where they hold the bounds, lead to the split of each
+-- item. Assumes nothing.
 use mathlib.Core.Path.{_≡_}
 use mathlib.Core.List.{List}
 use Prim.Native.Nat.{ℕ, _+_, _-_, _≤_, _<_}
@@ -8,7 +9,8 @@ use Rattle.tables.specs.Tables.{Table}
 use Rattle.tables.specs.Delimiters.{delimiters, Bucketed}
 use Rattle.tables.proofs.Lists.{length-listed, listed-at}
 use Rattle.tables.proofs.Delimiting.{length-delimiters, buckets-le, delimiters-table}
-use Rattle.splits.specs.Splits.{root, splitBeside, handleItem, handleSplit, leftEntry, rightEntry, leftStore, rightStore}
+use Rattle.splits.specs.Splits.{root, splitBeside, handleItem, handleSplit, leftEntry, rightEntry, leftStore}
+use Rattle.splits.specs.Splits.{rightStore}
 use Rattle.splits.specs.Inner.{SplitOf, Rising, Bounded}
 use Rattle.splits.proofs.Parents.{left-root}
 use Rattle.splits.proofs.Handles.{split-ok}
@@ -49,7 +51,8 @@ module _ (b : ℕ) (T left right : List ℕ) (k : Bounds b T left right) where
         let m = handleSplit (delimiters b T) i in
         let ok = split-ok (delimiters b T) i h in
         let split : SplitOf b T m = record { bucketed = k .bucketed; pos = ok .0; small = ok .1 } in
-        let rising : Rising b T m = record { table = delimiters-table b T (k .bucketed .some) (k .table); split = split } in
+        let rising : Rising b T m =
+        record { table = delimiters-table b T (k .bucketed .some) (k .table); split = split } in
         let left-is = k .left-is m (ok .1) in
         let right-is = k .right-is m (ok .1) in
         (record { rising = rising; left-room = omega arith; right-room = omega arith; left-is = left-is; right-is = right-is }, ok .2)
@@ -59,8 +62,10 @@ module _ (b : ℕ) (T left right : List ℕ) (k : Bounds b T left right) where
     split-small = omega (arith, delimiters-few, split-ok (delimiters b T) i h)
 
 -- the stores that a build of bounds leaves are such
-pub stores-bounds : (b : ℕ) (T lefts rights : List ℕ) → Table T → Bucketed b T → length (delimiters b T) ≤ length lefts
-    → length (delimiters b T) ≤ length rights → Bounds b T (leftStore (delimiters b T) lefts) (rightStore (delimiters b T) rights)
+pub stores-bounds : (b : ℕ) (T lefts rights : List ℕ) → Table T → Bucketed b T
+    → length (delimiters b T) ≤ length lefts
+    → length (delimiters b T) ≤ length rights
+    → Bounds b T (leftStore (delimiters b T) lefts) (rightStore (delimiters b T) rights)
 stores-bounds b T lefts rights t bucketed left-room right-room =
     let D = delimiters b T in
     record {

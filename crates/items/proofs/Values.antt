@@ -1,4 +1,5 @@
--- What stands at each number of maps 1 and 2, and that the value of a key and the prefix of its bucket lead back to its row. Assumes nothing.
+-- What stands at each number of maps 1 and 2, and that the value of a key and the prefix of its bucket lead back to
+-- its row. Assumes nothing.
 use mathlib.Core.Path.{_≡_}
 use mathlib.Core.List.{List}
 use Prim.Native.Nat.{ℕ, _+_, _*_, _/_, _%_, _≤_, _<_}
@@ -77,4 +78,6 @@ module _ (b : ℕ) (T : List ℕ) where
 
     -- the first bits of a key, as many as its bucket's length, are its bucket's item in map 2
     pub row-prefix : prefixItem (keyAt T r) (bucketLength b T (r / b)) ≡ getD (prefixItems b T) (r / b) 0
-    row-prefix = rw (prefix-is (r / b) row-bucket) (prefix-same T (s .table) b (r / b) (omega arith) row-bucket r row-low row-high)
+    row-prefix =
+        rw (prefix-is (r / b) row-bucket)
+        (prefix-same T (s .table) b (r / b) (omega arith) row-bucket r row-low row-high)

@@ -1,7 +1,8 @@
-// Which item and which value stand at number i of each map (document 01, "Call index" and "Neighbour index"). They are computed from the table
-// and the bounds of its splits, and not stored.
+// Which item and which value stand at number i of each map (document 01, "Call index" and "Neighbour index"). They
+// are computed from the table and the bounds of its splits, and not stored.
 //
-// Every function is proved and the crate assumes nothing. `Known` is what the builds have tested, and the bounds that they have written.
+// Every function is proved and the crate assumes nothing. `Known` is what the builds have tested, and the bounds that
+// they have written.
 ghost use mathlib.Core.Path.{_≡_};
 ghost use Prim.Native.Nat.{_+_, _*_, _/_, _%_, _≤_, _<_};
 ghost use lib.ListN.{length, getD};
@@ -18,7 +19,8 @@ use tables::delimiter::delimiter_count;
 use tables::lengths::handle_count;
 use words::prefix::prefix_item;
 
-// The map whose items are meant. The bucket size stands beside it: then nothing of which map it is goes through memory for each item.
+// The map whose items are meant. The bucket size stands beside it: then nothing of which map it is goes through
+// memory for each item.
 pub enum Items {
     // Map 1, on the keys.
     Keys,
@@ -58,7 +60,8 @@ fn split_at(left: &[u16], i: usize) -> usize
 // The handle of that split, an item of map 3.
 fn handle_at(keys: &[u64], b: usize, left: &[u16], right: &[u16], i: usize) -> u64
     requires { ⌜ Bounds b (now keys) (now left) (now right) × (i + 2 < length (delimiters b (now keys))) ⌝ }
-    ensures { λ r. ⌜ r ≡ handleItem (delimiters b (now (keys .entry))) (handleSplit (delimiters b (now (keys .entry))) i) ⌝ }
+    ensures { λ r. ⌜ r ≡ handleItem (delimiters b (now (keys .entry)))
+        (handleSplit (delimiters b (now (keys .entry))) i) ⌝ }
 {
     handle_item(keys, b, left, right, split_at(left, i))
 }

@@ -1,20 +1,54 @@
 -- Jams and peeling.
+--     one-item-never-jams     document 01's remark, of no items too
+--     jam-is-never-once       a jam is a nonempty set that touches no cell just once, as the demands say it
+--     jammed-not-jamless      a jam and no jam exclude each other
+--     largest-one-size        two largest jams are one set, and have one size
 --     closed-jam       a set that is not empty, and of which no cell is touched by exactly one, is a jam
 --     jam-has-none-peeled     who is in a jam was not peeled
 --     all-peeled       all are peeled: there is no jam
 --     rest-largest     not all are, and no cell is touched by exactly one of those left: they are the largest jam
 -- Assumes nothing.
 use mathlib.Core.Path.{_≡_, refl, sym, ap, ap₂, _∙_}
-use mathlib.Core.Bool.{Bool, true, false, _&&_, _||_, not, or-true, and-eq-true-iff}
+use mathlib.Core.Bool.{Bool, true, false, _&&_, _||_, not, or-true}
+use mathlib.Core.List.{List}
 use mathlib.Core.Logic.{_⊎_, inl, inr, ⊎-elim}
 use Prim.Native.Nat.{ℕ, zero, suc, _≤_, _<_}
 use native.Mathlib.Omega.{arith}
 use borrow.Author.Tests.{eq-eqb, ne-eqb, eqb-true, eqb-false, not-true}
 use lib.Dec.{eqb}
+use lib.ListN.{length}
 use Rattle.basics.proofs.Bools.{both, and-both, not-both, true-or-false}
-use Rattle.jams.specs.Jam.{Touches, Jam, NoJam, Largest, sizeOf}
+use Rattle.jams.specs.Jam.{Touches, Jam, NoJam, Largest, sizeOf, touch, Jammed, Jamless, LargestJam}
+use Rattle.jams.specs.Vouched.{NeverOnce, JamIsNeverOnce, OneItemNeverJams}
 use Rattle.jams.specs.Inner.Peel.{touchb, live, Peeling, still}
-use Rattle.jams.proofs.Sets.{size-zero, size-some, size-other, last-or-below}
+use Rattle.jams.specs.Inner.Work.{xorOf}
+use Rattle.jams.proofs.Sets.{size-ext, size-zero, size-some, size-one, size-other, One, last-or-below}
+
+one-never : (e : ℕ → ℕ → ℕ) (t : ℕ) → t ≤ 1 → NoJam e t
+one-never e t l s J =
+    let i = J .some .0 in
+    let o : (j : ℕ) × (j < t) × (s j ≡ true) × Touches e j (e 0 i) × (j ≡ i → ⊥) =
+    J .twice i (e 0 i) (J .some .1) (J .some .2) (inl refl) in
+    o .4 (omega (arith, J .some .1))
+
+pub one-item-never-jams : OneItemNeverJams
+one-item-never-jams seed items l = one-never (touch seed items) (length items) l
+
+pub jammed-not-jamless : (seed : ℕ) (items : List ℕ) → Jammed seed items → Jamless seed items → ⊥
+jammed-not-jamless seed items K N = N (K .0) (K .1)
+
+same-test : (a b : Bool) → (a ≡ true → b ≡ true) → (b ≡ true → a ≡ true) → a ≡ b
+same-test true b f g = sym (f refl)
+same-test false true f g = g refl
+same-test false false f g = refl
+
+largest-same : (e : ℕ → ℕ → ℕ) (t : ℕ) (s s′ : ℕ → Bool) → Largest e t s → Largest e t s′ → (i : ℕ) → i < t → s i ≡ s′ i
+largest-same e t s s′ L M i l = same-test (s i) (s′ i) (M .all s (L .jam) i l) (L .all s′ (M .jam) i l)
+
+pub largest-one-size : (seed : ℕ) (items : List ℕ) {m n : ℕ} → LargestJam seed items m → LargestJam seed items n → m ≡ n
+largest-one-size seed items L M =
+    let t = length items in
+    sym (L .2) ∙ size-ext (L .0) (M .0) t (largest-same (touch seed items) t (L .0) (M .0) (L .1) (M .1)) ∙ M .2
 
 or-cases : (a b : Bool) → a || b ≡ true → (a ≡ true) ⊎ (b ≡ true)
 or-cases true b e = inl refl
@@ -25,8 +59,8 @@ unfolding touchb
 touched e i c h =
     ⊎-elim (λ (a : eqb (e 0 i) c ≡ true). inl (eqb-true (e 0 i) c a))
     (λ (b : eqb (e 1 i) c || eqb (e 2 i) c ≡ true).
-    inr
-    (⊎-elim (λ (a : eqb (e 1 i) c ≡ true). inl (eqb-true (e 1 i) c a)) (λ (a : eqb (e 2 i) c ≡ true). inr (eqb-true (e 2 i) c a))
+    inr (⊎-elim (λ (a : eqb (e 1 i) c ≡ true). inl (eqb-true (e 1 i) c a))
+    (λ (a : eqb (e 2 i) c ≡ true). inr (eqb-true (e 2 i) c a))
     (or-cases (eqb (e 1 i) c) (eqb (e 2 i) c) b)))
     (or-cases (eqb (e 0 i) c) (eqb (e 1 i) c || eqb (e 2 i) c) h)
 
@@ -46,8 +80,28 @@ closed-jam e t s no-one some =
       twice = λ i c l h w.
           let o : (j : ℕ) × (j < t) × (s j && touchb e j c ≡ true) × (j ≡ i → ⊥) =
           size-other (λ k. s k && touchb e k c) t i (no-one c) l (and-both h (touches e i c w)) in
-          (o .0, o .1, both (s (o .0)) (touchb e (o .0) c) (o .2) .0, touched e (o .0) c (both (s (o .0)) (touchb e (o .0) c) (o .2) .1), o .3);
+          let b = both (s (o .0)) (touchb e (o .0) c) (o .2) in
+          (o .0, o .1, b .0, touched e (o .0) c (b .1), o .3);
     }
+
+jam-never-once : {e : ℕ → ℕ → ℕ} {t : ℕ} {s : ℕ → Bool} → Jam e t s → NeverOnce e t s
+jam-never-once J i c l h w alone =
+    let o = J .twice i c l h w in
+    o .4 (alone (o .0) (o .1) (o .2) (o .3))
+
+never-once-jam : {e : ℕ → ℕ → ℕ} {t : ℕ} {s : ℕ → Bool} → (i : ℕ) × (i < t) × (s i ≡ true) → NeverOnce e t s → Jam e t s
+never-once-jam {e} {t} {s} some N =
+    closed-jam e t s
+    (λ c z.
+    let p : ℕ → Bool = λ k. s k && touchb e k c in
+    let o : One p t (xorOf p t) = size-one p t z in
+    let i = xorOf p t in
+    let b = both (s i) (touchb e i c) (o .passes) in
+    N i c (o .below) (b .0) (touched e i c (b .1)) (λ j l h w. o .only j l (and-both h (touches e j c w))))
+    some
+
+pub jam-is-never-once : JamIsNeverOnce
+jam-is-never-once e t s = ((λ J. (J .some, jam-never-once J)), (λ h. never-once-jam (h .0) (h .1)))
 
 -- who is left was peeled at no turn
 pub live-not : (st : ℕ → ℕ) (n i : ℕ) → live st n i ≡ true → (p : ℕ) → p < n → st p ≡ i → ⊥
@@ -55,7 +109,8 @@ unfolding live
 live-not st zero i h p l e = omega arith
 live-not st (suc n) i h p l e =
     ⊎-elim
-    (λ (q : p ≡ n). eqb-false (st n) i (not-true (eqb (st n) i) (both (live st n i) (not (eqb (st n) i)) h .1)) (ap st (sym q) ∙ e))
+    (λ (q : p ≡ n).
+    eqb-false (st n) i (not-true (eqb (st n) i) (both (live st n i) (not (eqb (st n) i)) h .1)) (ap st (sym q) ∙ e))
     (λ (m : p < n). live-not st n i (both (live st n i) (not (eqb (st n) i)) h .0) p m e)
     (last-or-below l)
 
@@ -63,7 +118,8 @@ live-not st (suc n) i h p l e =
 pub live-all : (st : ℕ → ℕ) (n i : ℕ) → ((p : ℕ) → p < n → st p ≡ i → ⊥) → live st n i ≡ true
 unfolding live
 live-all st zero i h = refl
-live-all st (suc n) i h = and-both (live-all st n i (λ p l. h p (omega arith))) (ap not (ne-eqb (st n) i (h n (omega arith))))
+live-all st (suc n) i h =
+    and-both (live-all st n i (λ p l. h p (omega arith))) (ap not (ne-eqb (st n) i (h n (omega arith))))
 
 -- who is not left was peeled at some turn
 pub live-out : (st : ℕ → ℕ) (n i : ℕ) → live st n i ≡ false → (p : ℕ) × (p < n) × (st p ≡ i)
@@ -96,7 +152,8 @@ module _ (e : ℕ → ℕ → ℕ) (t : ℕ) (st at : ℕ → ℕ) (n : ℕ) (P 
   no-first : (s : ℕ → Bool) → Jam e t s → (m p : ℕ) → p < m → p < n → s (st p) ≡ true → ⊥
   no-first s J zero p l k h = omega arith
   no-first s J (suc m) p l k h =
-      let o : (j : ℕ) × (j < t) × (s j ≡ true) × Touches e j (at p) × (j ≡ st p → ⊥) = J .twice (st p) (at p) (P .small p k) h (P .here p k) in
+      let o : (j : ℕ) × (j < t) × (s j ≡ true) × Touches e j (at p) × (j ≡ st p → ⊥) =
+      J .twice (st p) (at p) (P .small p k) h (P .here p k) in
       ⊎-elim
       (λ (a : live st p (o .0) ≡ true). o .4 (P .alone p k (o .0) (o .1) a (o .3)))
       (λ (a : live st p (o .0) ≡ false).
@@ -111,7 +168,8 @@ module _ (e : ℕ → ℕ → ℕ) (t : ℕ) (st at : ℕ → ℕ) (n : ℕ) (P 
   none-left q i l = size-zero (live st n) t (omega (arith, P .left)) i l
 
   pub all-peeled : n ≡ t → NoJam e t
-  all-peeled q s J = not-both (jam-has-none-peeled s J (J .some .0) (J .some .2)) (none-left q (J .some .0) (J .some .1))
+  all-peeled q s J =
+      not-both (jam-has-none-peeled s J (J .some .0) (J .some .2)) (none-left q (J .some .0) (J .some .1))
 
   pub rest-largest : (n ≡ t → ⊥) → ((c : ℕ) → sizeOf (still e st n c) t ≡ 1 → ⊥) → Largest e t (live st n)
   rest-largest q h =

@@ -7,7 +7,7 @@
 --     turn-counted   the item whose turn it is is counted at each of its cells
 --     taken, taken-seen    it is taken out, and the cells that it does not touch are as they were
 --     start-peeled   all items counted: none has a turn
---     seen-stuck     all turns taken: no cell has one item left
+--     stuck-largest  all turns taken and not all items peeled: those left are the largest jam
 --     at-most        at most all have their turns
 -- Assumes nothing.
 use mathlib.Core.Path.{_≡_, refl, sym, ap, ap₂, _∙_, subst, fun-ext}
@@ -24,11 +24,12 @@ use lib.Dec.{eqb}
 use lib.ListN.{length, getD, set, length-set}
 use lib.Seq.{getD-set-same, getD-set-other}
 use Rattle.basics.proofs.Bools.{both, and-both, not-both, true-or-false}
-use Rattle.jams.specs.Jam.{Touches, sizeOf}
+use Rattle.jams.specs.Jam.{Touches, Largest, sizeOf}
 use Rattle.jams.specs.Inner.Peel.{touchb, live, Peeling, still}
-use Rattle.jams.specs.Inner.Work.{Put, Holds, Peeled, Seen, AllSeen, Tryable, Tried, moreIf, xorIf, mark, turnItem, turnCell}
+use Rattle.jams.specs.Inner.Work.{Put, CellsHold, Peeled, Seen, AllSeen, Tryable, CellTried}
+use Rattle.jams.specs.Inner.Work.{moreIf, xorIf, xorOf, mark, turnItem, turnCell}
 use Rattle.jams.proofs.Sets.{size-one, One, Without, size-less, xor-less, size-zero, last-or-below, xor-if-twice}
-use Rattle.jams.proofs.Jams.{touched, touches, live-ext, live-not, live-le}
+use Rattle.jams.proofs.Jams.{touched, touches, live-ext, live-not, live-le, rest-largest}
 
 pub at-most : {e : ℕ → ℕ → ℕ} {t cap q n : ℕ} {w : List ℕ} → Peeled e t cap w q n → n ≤ t
 at-most P = omega (arith, P .order .left)
@@ -45,7 +46,8 @@ pub one-left : {e : ℕ → ℕ → ℕ} {t cap q n : ℕ} {w : List ℕ} (c : �
 one-left {e} {t} {cap} {q} {n} {w} c P l d =
     let st = turnItem cap t w in
     let i = getD w (cap + c) 0 in
-    let o : One (still e st q c) t i = rw (P .holds .xor c l) (size-one (still e st q c) t (sym (P .holds .count c l) ∙ d)) in
+    let o : One (still e st q c) t i =
+    rw (P .holds .xor c l) (size-one (still e st q c) t (sym (P .holds .count c l) ∙ d)) in
     record {
       below = o .below;
       left = both (live st q i) (touchb e i c) (o .passes) .0;
@@ -59,19 +61,23 @@ unmarked : {e : ℕ → ℕ → ℕ} {t cap q n : ℕ} {w : List ℕ} (i : ℕ) 
 unmarked {cap = cap} {w = w} i P l u = sym (P .marks i l) ∙ eq-eqb (mark cap w i) 0 u
 
 -- an item that has its turn is marked
-pub turn-marked : {e : ℕ → ℕ → ℕ} {t cap q n : ℕ} {w : List ℕ} (p : ℕ) → Peeled e t cap w q n → p < n → 0 < mark cap w (turnItem cap t w p)
+pub turn-marked : {e : ℕ → ℕ → ℕ} {t cap q n : ℕ} {w : List ℕ} (p : ℕ) → Peeled e t cap w q n → p < n
+    → 0 < mark cap w (turnItem cap t w p)
 turn-marked {t = t} {cap} {n = n} {w} p P l =
     let i = turnItem cap t w p in
-    let some : ¬ (mark cap w i ≡ 0) = λ u. live-not (turnItem cap t w) n i (unmarked i P (P .order .small p l) u) p l refl in
+    let some : ¬ (mark cap w i ≡ 0) =
+    λ u. live-not (turnItem cap t w) n i (unmarked i P (P .order .small p l) u) p l refl in
     omega arith
 
 -- while one is not marked, not all have their turns
 not-all : {e : ℕ → ℕ → ℕ} {t cap q n : ℕ} {w : List ℕ} (i : ℕ) → Peeled e t cap w q n → i < t → mark cap w i ≡ 0 → n < t
 not-all {t = t} {cap} {n = n} {w} i P l u =
-    let some : ¬ (sizeOf (live (turnItem cap t w) n) t ≡ 0) = λ z. not-both (unmarked i P l u) (size-zero (live (turnItem cap t w) n) t z i l) in
+    let some : ¬ (sizeOf (live (turnItem cap t w) n) t ≡ 0) =
+    λ z. not-both (unmarked i P l u) (size-zero (live (turnItem cap t w) n) t z i l) in
     omega (arith, P .order .left)
 
-pub can-try : {e : ℕ → ℕ → ℕ} {t cap q n : ℕ} {w : List ℕ} (c : ℕ) → Peeled e t cap w q n → c < cap → cap < 65536 → t < 65536
+pub can-try : {e : ℕ → ℕ → ℕ} {t cap q n : ℕ} {w : List ℕ} (c : ℕ) → Peeled e t cap w q n → c < cap → cap < 65536
+    → t < 65536
     → cap + cap + t + t ≤ length w → Tryable cap t w n c
 can-try {cap = cap} {w = w} c P l a b long =
     record {
@@ -97,7 +103,8 @@ module _ (st st′ : ℕ → ℕ) (n i : ℕ) (same : (p : ℕ) → p < n → st
         same = λ j q. sym (live-one j ∙ rw (ne-eqb i j (λ z. q (sym z)), and-true (live st n j)));
       }
 
-  still-without : (e : ℕ → ℕ → ℕ) (k : ℕ) → live st n i ≡ true → Without (still e st n k) (still e st′ (suc n) k) i (touchb e i k)
+  still-without : (e : ℕ → ℕ → ℕ) (k : ℕ) → live st n i ≡ true
+      → Without (still e st n k) (still e st′ (suc n) k) i (touchb e i k)
   still-without e k h =
       record {
         was = rw h;
@@ -105,11 +112,12 @@ module _ (st st′ : ℕ → ℕ) (n i : ℕ) (same : (p : ℕ) → p < n → st
         same = λ j q. ap (λ (b : Bool). b && touchb e j k) (live-without h .same j q);
       }
 
-pub tried-none : {cap t n : ℕ} {w : List ℕ} (c : ℕ) → Seen cap w c → Tried cap t c w n w n
+pub tried-none : {cap t n : ℕ} {w : List ℕ} (c : ℕ) → Seen cap w c → CellTried cap t c w n w n
 tried-none c h = record { peeled = λ e q P. P; here = h; kept = λ k m s. s; beyond = λ k m. refl }
 
 -- the item left at c gets its turn
-module _ {cap t n : ℕ} {w : List ℕ} (c : ℕ) (T : Tryable cap t w n c) (d : getD w c 0 ≡ 1) (u : mark cap w (getD w (cap + c) 0) ≡ 0) where
+module _ {cap t n : ℕ} {w : List ℕ} (c : ℕ) (T : Tryable cap t w n c) (d : getD w c 0 ≡ 1)
+    (u : mark cap w (getD w (cap + c) 0) ≡ 0) where
   abbrev I : ℕ
   I = getD w (cap + c) 0
 
@@ -158,7 +166,8 @@ module _ {cap t n : ℕ} {w : List ℕ} (c : ℕ) (T : Tryable cap t w n c) (d :
 
   mark-top : mark cap Given I ≡ c + 1
   mark-top =
-      getD-set-other (set w y (c + 1)) z y I 0 (λ q. omega (arith, I-below)) ∙ getD-set-same w y (c + 1) 0 (omega (arith, T .long, I-below))
+      getD-set-other (set w y (c + 1)) z y I 0 (λ q. omega (arith, I-below))
+      ∙ getD-set-same w y (c + 1) 0 (omega (arith, T .long, I-below))
 
   module _ {e : ℕ → ℕ → ℕ} {q : ℕ} (P : Peeled e t cap w q n) where
     O : OneLeft e t Items q c I
@@ -201,7 +210,8 @@ module _ {cap t n : ℕ} {w : List ℕ} (c : ℕ) (T : Tryable cap t w n c) (d :
           here = each (λ p i k. Touches e i k) (o .here) (O .here);
           alone = each (λ p i k. (j : ℕ) → j < t → live Items′ p j ≡ true → Touches e j k → j ≡ i)
               (λ p z j jt lv tj. o .alone p z j jt (sym (live-below p j (omega arith)) ∙ lv) tj)
-              (λ j jt lv tj. O .only j jt (live-le Items q n j (P .behind) (sym (live-below n j (omega arith)) ∙ lv)) tj);
+              (λ j jt lv tj.
+              O .only j jt (live-le Items q n j (P .behind) (sym (live-below n j (omega arith)) ∙ lv)) tj);
           left =
               let s : sizeOf (live Items n) t ≡ suc (sizeOf (live Items′ (suc n)) t) =
               size-less (live Items n) (live Items′ (suc n)) I t true I-below gone in
@@ -240,7 +250,7 @@ module _ {cap t n : ℕ} {w : List ℕ} (c : ℕ) (T : Tryable cap t w n c) (d :
         | no h ↦ s one (sym (mark-kept j (T .items k m one) h) ∙ u″)
       ]
 
-  pub tried-turn : Tried cap t c w n Given (n + 1)
+  pub tried-turn : CellTried cap t c w n Given (n + 1)
   tried-turn =
       record {
         peeled = λ e q P. subst (Peeled e t cap Given q) (sym (add-one n)) (given P);
@@ -265,7 +275,8 @@ module _ {e : ℕ → ℕ → ℕ} {t cap q n : ℕ} {w : List ℕ} (P : Peeled 
   turn-counted k m h =
       let s = still e (turnItem cap t w) q k in
       let some : ¬ (getD w k 0 ≡ 0) =
-      λ z. not-both (and-both now-left (touches e Now k h)) (size-zero s t (sym (P .holds .count k m) ∙ z) Now (P .order .small q l)) in
+      λ z. not-both (and-both now-left (touches e Now k h))
+      (size-zero s t (sym (P .holds .count k m) ∙ z) Now (P .order .small q l)) in
       omega arith
 
   -- is taken out
@@ -277,19 +288,22 @@ module _ {e : ℕ → ℕ → ℕ} {t cap q n : ℕ} {w : List ℕ} (P : Peeled 
     items-same = fun-ext (λ p. sym (R .rest (cap + cap + t + p) (omega arith)))
 
     cells-same : turnCell cap t w′ ≡ turnCell cap t w
-    cells-same = fun-ext (λ p. ap (λ (k : ℕ). k - 1) (mark-same (turnItem cap t w′ p) ∙ ap (λ (st : ℕ → ℕ). mark cap w (st p)) items-same))
+    cells-same =
+        fun-ext
+        (λ p.
+        ap (λ (k : ℕ). k - 1) (mark-same (turnItem cap t w′ p) ∙ ap (λ (st : ℕ → ℕ). mark cap w (st p)) items-same))
 
-    gone-at : (k : ℕ) → Without (still e (turnItem cap t w) q k) (still e (turnItem cap t w) (suc q) k) Now (touchb e Now k)
+    gone-at : (k : ℕ)
+        → Without (still e (turnItem cap t w) q k) (still e (turnItem cap t w) (suc q) k) Now (touchb e Now k)
     gone-at k = still-without (turnItem cap t w) (turnItem cap t w) q Now (λ p m. refl) refl e k now-left
 
-    holds-less : Holds t cap (still e (turnItem cap t w) (suc q)) w′
+    holds-less : CellsHold t cap (still e (turnItem cap t w) (suc q)) w′
     holds-less =
         let s = still e (turnItem cap t w) q in
         let s′ = still e (turnItem cap t w) (suc q) in
         record {
           count = λ k m.
-              more-inj (touchb e Now k) (getD w′ k 0) (sizeOf (s′ k) t)
-              (sym (R .count k m) ∙ P .holds .count k m
+              more-inj (touchb e Now k) (getD w′ k 0) (sizeOf (s′ k) t) (sym (R .count k m) ∙ P .holds .count k m
               ∙ size-less (s k) (s′ k) Now t (touchb e Now k) (P .order .small q l) (gone-at k));
           xor = λ k m.
               sym (xor-if-twice (touchb e Now k) Now (getD w′ (cap + k) 0))
@@ -299,8 +313,7 @@ module _ {e : ℕ → ℕ → ℕ} {t cap q n : ℕ} {w : List ℕ} (P : Peeled 
 
     pub taken : Peeled e t cap w′ (q + 1) n
     taken =
-        rw add-one
-        (record {
+        rw add-one (record {
           order = rw (cells-same, items-same) (P .order);
           holds = rw items-same holds-less;
           marks = λ i m. ap (λ (k : ℕ). eqb k 0) (mark-same i) ∙ rw items-same (P .marks i m);
@@ -322,7 +335,8 @@ unfolding sizeOf
 all-left zero = refl
 all-left (suc t) = ap suc (all-left t)
 
-pub start-peeled : (e : ℕ → ℕ → ℕ) {t cap : ℕ} {w : List ℕ} → Holds t cap (λ c i. touchb e i c) w → ((i : ℕ) → i < t → mark cap w i ≡ 0)
+pub start-peeled : (e : ℕ → ℕ → ℕ) {t cap : ℕ} {w : List ℕ} → CellsHold t cap (λ c i. touchb e i c) w
+    → ((i : ℕ) → i < t → mark cap w i ≡ 0)
     → Peeled e t cap w 0 0
 unfolding live
 start-peeled e {t} {cap} {w} H bare =
@@ -339,7 +353,20 @@ start-peeled e {t} {cap} {w} H bare =
       behind = omega arith;
     }
 
-pub seen-stuck : {e : ℕ → ℕ → ℕ} {t cap n : ℕ} {w : List ℕ} → Peeled e t cap w n n → AllSeen cap w → (k : ℕ) → k < cap → getD w k 0 ≡ 1 → ⊥
+seen-stuck : {e : ℕ → ℕ → ℕ} {t cap n : ℕ} {w : List ℕ} → Peeled e t cap w n n → AllSeen cap w → (k : ℕ) → k < cap
+    → getD w k 0 ≡ 1 → ⊥
 seen-stuck {cap = cap} {w = w} P S k l d =
     let o = one-left k P l d in
     S k l d (eqb-true (mark cap w (getD w (cap + k) 0)) 0 (P .marks (getD w (cap + k) 0) (o .below) ∙ o .left))
+
+pub stuck-largest : {e : ℕ → ℕ → ℕ} {t cap n : ℕ} {w : List ℕ} → ((i c : ℕ) → Touches e i c → c < cap)
+    → Peeled e t cap w n n
+    → AllSeen cap w → (n ≡ t → ⊥) → Largest e t (live (turnItem cap t w) n)
+stuck-largest {e} {t} {cap} {n} {w} below P S h =
+    rest-largest e t (turnItem cap t w) (turnCell cap t w) n (P .order) h
+    (λ c z.
+    let st = turnItem cap t w in
+    let i = xorOf (still e st n c) t in
+    let o : One (still e st n c) t i = size-one (still e st n c) t z in
+    let l : c < cap = below i c (touched e i c (both (live st n i) (touchb e i c) (o .passes) .1)) in
+    seen-stuck P S c l (P .holds .count c l ∙ z))

@@ -7,8 +7,8 @@
 --     size-other              a set that is not of one has another number beside the one at hand
 -- Assumes nothing.
 use mathlib.Core.Path.{_≡_, refl, sym, ap, ap₂, _∙_}
-use mathlib.Core.Bool.{Bool, true, false, _&&_, not, true≢false, and-true, and-false, and-eq-true-iff}
-use mathlib.Core.Logic.{_⊎_, inl, inr, ⊎-elim}
+use mathlib.Core.Bool.{Bool, true, false, _&&_, not, and-true, and-false, and-eq-true-iff}
+use mathlib.Core.Logic.{_⊎_, ⊎-elim}
 use Prim.Native.Nat.{ℕ, zero, suc, _≤_, _<_}
 use native.Mathlib.Nat.{le-of-suc-le-suc, eq-or-lt-of-le}
 use native.Mathlib.Omega.{arith}
@@ -32,7 +32,8 @@ size-ext p q (suc t) h = ap₂ moreIf (h t (omega arith)) (size-ext p q t (λ k 
 pub xor-ext : (p q : ℕ → Bool) (t : ℕ) → ((k : ℕ) → k < t → p k ≡ q k) → xorOf p t ≡ xorOf q t
 unfolding xorOf
 xor-ext p q zero h = refl
-xor-ext p q (suc t) h = ap₂ (λ (b : Bool) (x : ℕ). xorIf b t x) (h t (omega arith)) (xor-ext p q t (λ k l. h k (omega arith)))
+xor-ext p q (suc t) h =
+    ap₂ (λ (b : Bool) (x : ℕ). xorIf b t x) (h t (omega arith)) (xor-ext p q t (λ k l. h k (omega arith)))
 
 pub size-le : (p : ℕ → Bool) (t : ℕ) → sizeOf p t ≤ t
 unfolding sizeOf
@@ -102,7 +103,8 @@ size-less p q i (suc t) b l w =
     (λ (e : i ≡ t).
     ap₂ moreIf (ap p (sym e) ∙ w .was) (size-ext p q t (λ k m. w .same k (λ z. omega arith)))
     ∙ ap (λ (a : Bool). moreIf b (moreIf a (sizeOf q t))) (sym (ap q (sym e) ∙ w .gone)))
-    (λ (m : i < t). ap₂ moreIf (w .same t (λ z. omega arith)) (size-less p q i t b m w) ∙ more-comm (q t) b (sizeOf q t))
+    (λ (m : i < t).
+    ap₂ moreIf (w .same t (λ z. omega arith)) (size-less p q i t b m w) ∙ more-comm (q t) b (sizeOf q t))
     (last-or-below l)
 
 pub xor-less : (p q : ℕ → Bool) (i t : ℕ) (b : Bool) → i < t → Without p q i b → xorOf q t ≡ xorIf b i (xorOf p t)
@@ -126,23 +128,27 @@ pub record One (p : ℕ → Bool) (t i : ℕ) : Type 0 where
   pub passes : p i ≡ true
   pub only : (k : ℕ) → k < t → p k ≡ true → k ≡ i
 
-one-more : (p : ℕ → Bool) (t : ℕ) (b : Bool) → p t ≡ b → moreIf b (sizeOf p t) ≡ 1 → (sizeOf p t ≡ 1 → One p t (xorOf p t))
+one-more : (p : ℕ → Bool) (t : ℕ) (b : Bool) → p t ≡ b → moreIf b (sizeOf p t) ≡ 1
+    → (sizeOf p t ≡ 1 → One p t (xorOf p t))
     → One p (suc t) (xorIf b t (xorOf p t))
 one-more p t true e h rec =
     let z : sizeOf p t ≡ 0 = omega arith in
     let x : bitXor (xorOf p t) t ≡ t = rw (xor-zero p t z) in
-    rw x
-    (record {
+    rw x (record {
       below = omega arith;
       passes = e;
-      only = λ k l q. ⊎-elim (λ (m : k ≡ t). m) (λ (m : k < t). absurd (not-both q (size-zero p t z k m))) (last-or-below l);
+      only =
+          λ k l q. ⊎-elim (λ (m : k ≡ t). m) (λ (m : k < t). absurd (not-both q (size-zero p t z k m)))
+          (last-or-below l);
     })
 one-more p t false e h rec =
     let r : One p t (xorOf p t) = rec h in
     record {
       below = omega (arith, r .below);
       passes = r .passes;
-      only = λ k l q. ⊎-elim (λ (m : k ≡ t). absurd (not-both q (ap p m ∙ e))) (λ (m : k < t). r .only k m q) (last-or-below l);
+      only =
+          λ k l q. ⊎-elim (λ (m : k ≡ t). absurd (not-both q (ap p m ∙ e))) (λ (m : k < t). r .only k m q)
+          (last-or-below l);
     }
 
 pub size-one : (p : ℕ → Bool) (t : ℕ) → sizeOf p t ≡ 1 → One p t (xorOf p t)
@@ -162,9 +168,11 @@ without-is p i =
       same = λ k h. rw (ne-eqb i k (λ z. h (sym z)), and-true (p k));
     }
 
-pub size-other : (p : ℕ → Bool) (t i : ℕ) → (sizeOf p t ≡ 1 → ⊥) → i < t → p i ≡ true → (j : ℕ) × (j < t) × (p j ≡ true) × (j ≡ i → ⊥)
+pub size-other : (p : ℕ → Bool) (t i : ℕ) → (sizeOf p t ≡ 1 → ⊥) → i < t → p i ≡ true
+    → (j : ℕ) × (j < t) × (p j ≡ true) × (j ≡ i → ⊥)
 size-other p t i h l e =
-    let c : sizeOf p t ≡ moreIf (p i) (sizeOf (without p i) t) = size-less p (without p i) i t (p i) l (without-is p i) in
+    let c : sizeOf p t ≡ moreIf (p i) (sizeOf (without p i) t) =
+    size-less p (without p i) i t (p i) l (without-is p i) in
     let c′ : sizeOf p t ≡ suc (sizeOf (without p i) t) = rw e at c in
     let r : (k : ℕ) × (k < t) × (without p i k ≡ true) = size-some (without p i) t (λ z. h (omega arith)) in (
       r .0,

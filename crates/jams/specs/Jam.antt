@@ -1,7 +1,7 @@
 -- Document 01, "Static maps": the cells that items touch, and jams.
 --
--- Items are known by their numbers 0 to t - 1, and `e j i` is the cell that item i touches in segment j. A set of the items is a test:
--- item i is in it if `s i ≡ true`.
+-- Items are known by their numbers 0 to t - 1, and `e j i` is the cell that item i touches in segment j. A set of the
+-- items is a test: item i is in it if `s i ≡ true`.
 use mathlib.Core.Path.{_≡_}
 use mathlib.Core.Bool.{Bool, true, cond}
 use mathlib.Core.List.{List}
@@ -18,7 +18,8 @@ Touches e i c = (e 0 i ≡ c) ⊎ ((e 1 i ≡ c) ⊎ (e 2 i ≡ c))
 -- a jam: a nonempty set of the items in which every cell touched is touched by at least two of the set
 pub record Jam (e : ℕ → ℕ → ℕ) (t : ℕ) (s : ℕ → Bool) : Type 0 where
   pub some : (i : ℕ) × (i < t) × (s i ≡ true)
-  pub twice : (i c : ℕ) → i < t → s i ≡ true → Touches e i c → (j : ℕ) × (j < t) × (s j ≡ true) × Touches e j c × (j ≡ i → ⊥)
+  pub twice : (i c : ℕ) → i < t → s i ≡ true → Touches e i c
+      → (j : ℕ) × (j < t) × (s j ≡ true) × Touches e j c × (j ≡ i → ⊥)
 
 -- the items hold no jam
 abbrev pub NoJam : (ℕ → ℕ → ℕ) → ℕ → Type 0
@@ -48,4 +49,5 @@ Jamless seed items = NoJam (touch seed items) (length items)
 
 -- the items hold a largest jam under the seed, and it has so many items
 abbrev pub LargestJam : ℕ → List ℕ → ℕ → Type 0
-LargestJam seed items size = (s : ℕ → Bool) × Largest (touch seed items) (length items) s × (sizeOf s (length items) ≡ size)
+LargestJam seed items size =
+    (s : ℕ → Bool) × Largest (touch seed items) (length items) s × (sizeOf s (length items) ≡ size)

@@ -53,10 +53,14 @@ unfoldable pub Lined : ℕ → (ℕ → List ℕ) → ℕ → List ℕ → ℕ �
 Lined most line n s i (At j) = (xs : List ℕ) × LinesAt most line n s i j xs
 Lined most line n s i Off = NoLines most line n s i
 
--- the same, with the numbers put at the start of `out`, which is left as `after`: nothing is changed unless all of them are read and fit
-unfoldable pub Loads : ℕ → (ℕ → List ℕ) → ℕ → List ℕ → ℕ → List ℕ → List ℕ → Next → Type 0
-Loads most line n s i out after (At j) = (n ≤ length out) × ((xs : List ℕ) × LinesAt most line n s i j xs × (after ≡ xs ++ drop n out))
-Loads most line n s i out after Off = (n ≤ length out → NoLines most line n s i) × (after ≡ out)
+-- the same, with the numbers put at the start of `out`, which is left as `after`. Where the lines are not all there
+-- or don't fit, what stands from place n on is as it was; and all of it, where they don't fit
+unfoldable pub Loads : ℕ → (ℕ → List ℕ) → ℕ → List ℕ → ℕ → List ℕ → List ℕ → Next
+    → Type 0
+Loads most line n s i out after (At j) =
+    (n ≤ length out) × ((xs : List ℕ) × LinesAt most line n s i j xs × (after ≡ xs ++ drop n out))
+Loads most line n s i out after Off = (n ≤ length out → NoLines most line n s i)
+    × (length after ≡ length out) × (drop n after ≡ drop n out) × (length out < n → after ≡ out)
 
 -- what is left of a room after the text t, if it fits
 unfoldable pub Leaves : List ℕ → ℕ → Next → Type 0

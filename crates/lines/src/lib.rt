@@ -1,5 +1,5 @@
-// Lines of text (document 01, "`rowcheck`"): a tag such as `key=`, a number and a line feed. One line, or n lines of a kind, are read
-// from a slice of bytes at a position and written there.
+// Lines of text (document 01, "`rowcheck`"): a tag such as `key=`, a number and a line feed. One line, or n lines of a
+// kind, are read from a slice of bytes at a position and written there.
 //
 // Every function is proved and the crate assumes nothing. No public function has a `requires`.
 pub mod line;

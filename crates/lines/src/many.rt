@@ -27,8 +27,8 @@ pub fn lines_end(s: &[u8], i: usize, tag: &[u8], kind: Kind, most: u64, n: usize
     Next::At(at)
 }
 
-// Puts the numbers of the n lines at i at the start of `out`, if they stand there and there is room. It looks for all of them first, so
-// that nothing is changed otherwise.
+// Puts the numbers of the n lines at i at the start of `out`, if they stand there and there is room. It reads each
+// line once and stops at the first that isn't there, so `out` may then hold what was read so far.
 pub fn load_u64(
     s: &[u8],
     i: usize,
@@ -43,9 +43,9 @@ pub fn load_u64(
     if out.len() < n {
         return Next::Off;
     }
-    let Next::At(end) = lines_end(s, i, tag, kind, most, n) else {
+    if s.len() < i {
         return Next::Off;
-    };
+    }
     let mut k: usize = 0;
     let mut at = i;
     while k < n {
@@ -58,7 +58,7 @@ pub fn load_u64(
         }
         k += 1;
     }
-    Next::At(end)
+    Next::At(at)
 }
 
 // The same into 16-bit numbers.
@@ -76,14 +76,13 @@ pub fn load_u16(
     if out.len() < n {
         return Next::Off;
     }
-    let limit = most as u64;
-    let Next::At(end) = lines_end(s, i, tag, kind, limit, n) else {
+    if s.len() < i {
         return Next::Off;
-    };
+    }
     let mut k: usize = 0;
     let mut at = i;
     while k < n {
-        match line::read_line(s, at, tag, kind, limit) {
+        match line::read_line(s, at, tag, kind, most as u64) {
             Read::Value { value, next } => {
                 out[k] = value as u16;
                 at = next;
@@ -92,7 +91,7 @@ pub fn load_u16(
         }
         k += 1;
     }
-    Next::At(end)
+    Next::At(at)
 }
 
 // What is left of a room after a line for each of the numbers, if they fit.

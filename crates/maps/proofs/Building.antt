@@ -1,42 +1,32 @@
 -- From the last turn to what a build leaves.
---     stuck-largest    all turns taken, and no cell has one item left: those left are the largest jam
 --     built            what `build` has done is what it promises
 -- Assumes nothing.
 use mathlib.Core.Path.{_≡_, ap, _∙_}
 use mathlib.Core.List.{List}
 use mathlib.Core.Logic.{_⊎_, inl, inr, ⊎-elim}
-use Prim.Native.Nat.{ℕ, _+_, _-_, _*_, _≤_, _<_}
+use Prim.Native.Nat.{ℕ, _+_, _-_, _*_, _≤_}
+use native.Mathlib.Nat.{le-refl}
 use native.Mathlib.Omega.{arith}
 use lib.ListN.{length, getD}
-use Rattle.basics.proofs.Bools.{both}
 use Rattle.words.specs.Mix.{itemHash}
 use Rattle.words.specs.Inner.{mixedSeed}
 use Rattle.cells.specs.Cells.{segment, cellCount, Segment, valueAt, workCount}
 use Rattle.cells.specs.Memory.{cleared}
+use Rattle.cells.proofs.Sweeping.{drop-cleared}
 use Rattle.items.specs.Items.{itemsOf, valuesOf}
-use Rattle.maps.specs.declared.Map.{Map}
-use Rattle.jams.specs.Jam.{Touches, touch, Largest, sizeOf}
-use Rattle.maps.specs.Built.{Room, Filled, Built, MapBuilt}
-use Rattle.jams.specs.Inner.Peel.{touchb, live, still}
-use Rattle.jams.specs.Inner.Work.{Peeled, AllSeen, Beyond, xorOf, turnItem, turnCell}
+use Rattle.counts.specs.declared.Map.{Map}
+use Rattle.jams.specs.Jam.{touch, sizeOf}
+use Rattle.jams.specs.Inner.Peel.{live}
+use Rattle.jams.specs.Inner.Work.{Peeled, AllSeen, Beyond, turnItem, turnCell}
 use Rattle.jams.specs.Inner.Fill.{valueOf, Valued, Clean}
-use Rattle.maps.specs.Inner.Ready.{Ready, Queued, FilledAll}
-use Rattle.jams.proofs.Sets.{size-one, One}
-use Rattle.jams.proofs.Jams.{touched, rest-largest, all-peeled}
-use Rattle.maps.proofs.Puts.{spread, touch-below}
-use Rattle.jams.proofs.Peeling.{seen-stuck}
-use Rattle.jams.proofs.Clearing.{drop-cleared, drop-same, cleared-same}
-
-pub stuck-largest : {e : ℕ → ℕ → ℕ} {t cap n : ℕ} {w : List ℕ} → ((i c : ℕ) → Touches e i c → c < cap) → Peeled e t cap w n n
-    → AllSeen cap w → (n ≡ t → ⊥) → Largest e t (live (turnItem cap t w) n)
-stuck-largest {e} {t} {cap} {n} {w} below P S h =
-    rest-largest e t (turnItem cap t w) (turnCell cap t w) n (P .order) h
-    (λ c z.
-    let st = turnItem cap t w in
-    let i = xorOf (still e st n c) t in
-    let o : One (still e st n c) t i = size-one (still e st n c) t z in
-    let l : c < cap = below i c (touched e i c (both (live st n i) (touchb e i c) (o .passes) .1)) in
-    seen-stuck P S c l (P .holds .count c l ∙ z))
+use Rattle.jams.proofs.Jams.{all-peeled}
+use Rattle.jams.proofs.Puts.{spread, touch-below}
+use Rattle.jams.proofs.Peeling.{stuck-largest}
+use Rattle.jams.proofs.Clearing.{drop-same, cleared-same}
+use Rattle.counts.specs.Inner.{Ready}
+use Rattle.peels.specs.Inner.{Queued}
+use Rattle.fills.specs.Inner.{FilledAll}
+use Rattle.maps.specs.Built.{Room, Filled, Built, MapBuilt}
 
 module _ (seed : ℕ) (items values : List ℕ) where
   abbrev e : ℕ → ℕ → ℕ
@@ -55,7 +45,8 @@ module _ (seed : ℕ) (items values : List ℕ) where
           swept = sw;
         }
 
-    built-jammed : Segment (segment t) → (n ≡ t → ⊥) → AllSeen (cellCount t) w → b ≡ cleared (cellCount t) a → Built seed items values a u (t - n) b v
+    built-jammed : Segment (segment t) → (n ≡ t → ⊥) → AllSeen (cellCount t) w → b ≡ cleared (cellCount t) a
+        → Built seed items values a u (t - n) b v
     built-jammed S q seen same =
         let left : sizeOf (live (turnItem (cellCount t) t w) n) t + n ≡ t = P .order .left in
         record {
@@ -63,7 +54,8 @@ module _ (seed : ℕ) (items values : List ℕ) where
           refused = λ o. (
             (
               live (turnItem (cellCount t) t w) n,
-              stuck-largest (λ i c h. touch-below c (spread (segment t) (λ k. itemHash (getD items k 0) seed) i S) h) P seen q,
+              stuck-largest
+                  (λ i c h. touch-below c (spread (segment t) (λ k. itemHash (getD items k 0) seed) i S) h) P seen q,
               omega arith,
             ),
             same,
@@ -76,7 +68,8 @@ pub record Ended (map : Map) (keys : List ℕ) (n : ℕ) (a b : List ℕ) : Type
   pub long : length b ≡ length a
   pub how : ((n ≡ map .t) × FilledAll map keys a b) ⊎ ((n ≡ map .t → ⊥) × (b ≡ a))
 
-pub ended-filled : {map : Map} {keys : List ℕ} {n : ℕ} {a b d : List ℕ} → n ≡ map .t → FilledAll map keys a d → length d ≡ length a → b ≡ d
+pub ended-filled : {map : Map} {keys : List ℕ} {n : ℕ} {a b d : List ℕ} → n ≡ map .t → FilledAll map keys a d
+    → length d ≡ length a → b ≡ d
     → Ended map keys n a b
 ended-filled q F l e = record { long = ap length e ∙ l; how = inl (q, rw e F) }
 
@@ -87,17 +80,22 @@ work-size : (m t n : ℕ) → m ≡ segment t → t ≡ n → 6 * m + 2 * t ≡ 
 work-size m t n em et = rw (em, et) (omega arith)
 
 -- the named lengths, in the map's sizes
-pub room-cells : {map : Map} {keys left right cells work : List ℕ} → Ready map keys left right → Room (itemsOf (map .which) (map .b) keys) cells work
+pub room-cells : {map : Map} {keys left right cells work : List ℕ} → Ready map keys left right
+    → Room (itemsOf (map .which) (map .b) keys) cells work
     → 3 * map .m ≤ length cells
 room-cells R room = rw (R .size, R .all) (room .forCells)
 
-pub room-work : {map : Map} {keys left right cells work : List ℕ} → Ready map keys left right → Room (itemsOf (map .which) (map .b) keys) cells work
+pub room-work : {map : Map} {keys left right cells work : List ℕ} → Ready map keys left right
+    → Room (itemsOf (map .which) (map .b) keys) cells work
     → 6 * map .m + 2 * map .t ≤ length work
-room-work {map} {keys} R room = rw (work-size (map .m) (map .t) (length (itemsOf (map .which) (map .b) keys)) (R .size) (R .all)) (room .forWork)
+room-work {map} {keys} R room =
+    rw (work-size (map .m) (map .t) (length (itemsOf (map .which) (map .b) keys)) (R .size) (R .all)) (room .forWork)
 
-pub built : {map : Map} {keys left right : List ℕ} {a a₁ b u w v : List ℕ} {n : ℕ} (seed : ℕ) → map .mixed ≡ mixedSeed seed
+pub built : {map : Map} {keys left right : List ℕ} {a a₁ b u w v : List ℕ} {n : ℕ} (seed : ℕ)
+    → map .mixed ≡ mixedSeed seed
     → a₁ ≡ cleared (3 * map .m) a → length a₁ ≡ length a
-    → Queued map keys left right u w n n → length w ≡ length u → v ≡ cleared (6 * map .m + 2 * map .t) w → Ended map keys n a₁ b
+    → Queued map keys left right u w n n → length w ≡ length u → v ≡ cleared (6 * map .m + 2 * map .t) w
+    → Ended map keys n a₁ b
     → MapBuilt (map .which) (map .b) seed keys a u (map .t - n) b v
 unfolding Valued Clean valueOf valueAt
 built {map} {keys} {a = a} {a₁} {b} {u} {w} {v} {n} seed es z l O lw y E =
@@ -106,21 +104,23 @@ built {map} {keys} {a = a} {a₁} {b} {u} {w} {v} {n} seed es z l O lw y E =
     let em : map .m ≡ segment (map .t) = O .turn .ready .size in
     let et : map .t ≡ length items = O .turn .ready .all in
     let z′ : a₁ ≡ cleared (cellCount (length items)) a = rw (em, et) at z in
-    let P : Peeled (touch seed items) (length items) (cellCount (length items)) w n n = rw (es, em, et) at (O .turn .peeled) in
+    let P : Peeled (touch seed items) (length items) (cellCount (length items)) w n n =
+    rw (es, em, et) at (O .turn .peeled) in
     let sw : v ≡ cleared (workCount (length items)) u =
-    y ∙ cleared-same (6 * map .m + 2 * map .t) u w lw (O .beyond) ∙ ap (λ (k : ℕ). cleared k u) (work-size (map .m) (map .t) (length items) em et) in
-    rw et
-    (⊎-elim
+    y ∙ cleared-same (6 * map .m + 2 * map .t) u w lw (O .beyond)
+    ∙ ap (λ (k : ℕ). cleared k u) (work-size (map .m) (map .t) (length items) em et) in
+    rw et (⊎-elim
     (λ h.
+    let C = cellCount (length items) in
     let F : FilledAll map keys a₁ b = h .1 in
     let B : Beyond (cellCount (length items)) a₁ b = rw (em, et) at (F .beyond) in
-    built-filled seed items values P sw (rw et at (h .0))
-    (record {
+    built-filled seed items values P sw (rw et at (h .0)) (record {
       valued = rw (es, em, et) at (F .valued);
       untouched = rw (es, em, et) at (F .clean);
-      beyond = drop-same (cellCount (length items)) a₁ b (E .long) B ∙ rw z′ (drop-cleared (cellCount (length items)) a);
+      beyond = drop-same (cellCount (length items)) a₁ b (E .long) B ∙ rw z′ (drop-cleared C C a (le-refl C));
       long = E .long ∙ l;
     }))
     (λ h.
-    built-jammed seed items values P sw (rw (em, et) at (O .turn .ready .fits)) (rw et at (h .0)) (rw (em, et) at (O .seen)) (h .1 ∙ z′))
+    built-jammed seed items values P sw (rw (em, et) at (O .turn .ready .fits)) (rw et at (h .0))
+    (rw (em, et) at (O .seen)) (h .1 ∙ z′))
     (E .how))

@@ -1,4 +1,3 @@
--- The definitions that the contracts of `maps` cite. What stands in Inner only the contracts of inner functions need.
+-- The definitions that the contract of `maps` cites, and what it determines.
 pub mod Built
 pub mod Determined
-pub mod Inner

@@ -1,13 +1,11 @@
 // The build of one map.
 ghost use Rattle.items.specs.Items.{itemsOf, Known};
 ghost use Rattle.maps.specs.Built.{Room, MapBuilt};
-use crate::Map;
-use crate::fill;
-use crate::peel;
+use counts::Map;
 use items::Items;
 
-// Builds the map from the items over buckets of b rows to their values under the seed. The answer is 0 where it is built, and where the
-// items hold a jam the size of the largest one.
+// Builds the map from the items over buckets of b rows to their values under the seed. The answer is 0 where it is
+// built, and where the items hold a jam the size of the largest one.
 pub fn build(
     which: Items,
     b: usize,
@@ -18,8 +16,10 @@ pub fn build(
     cells: &mut [u16],
     work: &mut [u16],
 ) -> usize
-    requires { ⌜ Known which b (now keys) (now left) (now right) × Room (itemsOf which b (now keys)) (now cells) (now work) ⌝ }
-    ensures { λ r. ⌜ MapBuilt which b seed (now (keys .entry)) (now (cells .entry)) (now (work .entry)) r (now (cells .exit)) (now (work .exit)) ⌝ }
+    requires { ⌜ Known which b (now keys) (now left) (now right)
+        × Room (itemsOf which b (now keys)) (now cells) (now work) ⌝ }
+    ensures { λ r. ⌜ MapBuilt which b seed (now (keys .entry)) (now (cells .entry)) (now (work .entry)) r
+        (now (cells .exit)) (now (work .exit)) ⌝ }
 {
     let t = items::item_count(which, b, keys, left, right);
     let m = cells::segment_size(t);
@@ -34,9 +34,9 @@ pub fn build(
         t,
     };
     cells::clear(cells, 3 * m);
-    let n = peel::peel_all(map, keys, left, right, work);
+    let n = peels::peel_all(map, keys, left, right, work);
     if n == t {
-        fill::fill_all(map, keys, left, right, cells, work);
+        fills::fill_all(map, keys, left, right, cells, work);
     }
     cells::clear(work, 6 * m + 2 * t);
     t - n

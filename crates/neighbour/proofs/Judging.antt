@@ -1,76 +1,30 @@
--- Refusals 1, 3 and 4 of the neighbour build, in their order. Assumes nothing.
-use mathlib.Core.Path.{_≡_}
+-- Refusals in their order: a test that fails goes on to the next, and one that holds gives its refusal. Assumes
+-- nothing.
+use mathlib.Core.Path.{_≡_, refl}
+use mathlib.Core.Bool.{cond}
 use mathlib.Core.List.{List}
 use Prim.Native.Nat.{ℕ, _≤_, _<_}
 use borrow.Author.Tests.{lt-ltb, le-ltb}
+use lib.Dec.{ltb}
 use lib.ListN.{length}
-use Rattle.refusals.specs.Numbers.{taken, refused}
-use Rattle.tables.specs.Tables.{firstFall}
+use Rattle.refusals.specs.Numbers.{taken}
+use Rattle.tables.specs.Tables.{mostKeys, firstFall}
 use Rattle.tables.specs.Lengths.{handleCells, neighbourWork}
 use Rattle.neighbour.specs.Build.{neighbourJudged}
 
-module _ (keys handles left right work : List ℕ) where
-  abbrev n : ℕ
-  n = length keys
+-- one test of a chain
+module _ {A : Type 0} {a b : ℕ} (no : A) where
+  pub goes-on : {rest r : A} → b ≤ a → rest ≡ r → cond (ltb a b) no rest ≡ r
+  goes-on h e = rw (le-ltb a b h) e
 
-  pub too-many-keys : 32768 < n → neighbourJudged keys handles left right work ≡ refused 1 0
-  unfolding neighbourJudged
-  too-many-keys h = rw (lt-ltb 32768 n h)
+  pub refuses : (rest : A) → a < b → cond (ltb a b) no rest ≡ no
+  refuses rest h = rw (lt-ltb a b h)
 
-  module _ (few : n ≤ 32768) where
-    pub falls : (row : ℕ) → row ≡ firstFall keys → 0 < row → neighbourJudged keys handles left right work ≡ refused 3 row
-    unfolding neighbourJudged
-    falls row e h = rw (le-ltb 32768 n few, ← e, lt-ltb 0 row h)
-
-    module _ (rises : firstFall keys ≤ 0) where
-      pub handles-short : length handles < handleCells n → neighbourJudged keys handles left right work ≡ refused 4 2
-      unfolding neighbourJudged
-      handles-short h = rw (le-ltb 32768 n few, le-ltb 0 (firstFall keys) rises, lt-ltb (length handles) (handleCells n) h)
-
-      module _ (handlesLong : handleCells n ≤ length handles) where
-        pub left-short : length left < n → neighbourJudged keys handles left right work ≡ refused 4 3
-        unfolding neighbourJudged
-        left-short h =
-            rw (
-              le-ltb 32768 n few,
-              le-ltb 0 (firstFall keys) rises,
-              le-ltb (length handles) (handleCells n) handlesLong,
-              lt-ltb (length left) n h,
-            )
-
-        module _ (leftLong : n ≤ length left) where
-          pub right-short : length right < n → neighbourJudged keys handles left right work ≡ refused 4 4
-          unfolding neighbourJudged
-          right-short h =
-              rw (
-                le-ltb 32768 n few,
-                le-ltb 0 (firstFall keys) rises,
-                le-ltb (length handles) (handleCells n) handlesLong,
-                le-ltb (length left) n leftLong,
-                lt-ltb (length right) n h,
-              )
-
-          module _ (rightLong : n ≤ length right) where
-            pub work-short : length work < neighbourWork n → neighbourJudged keys handles left right work ≡ refused 4 5
-            unfolding neighbourJudged
-            work-short h =
-                rw (
-                  le-ltb 32768 n few,
-                  le-ltb 0 (firstFall keys) rises,
-                  le-ltb (length handles) (handleCells n) handlesLong,
-                  le-ltb (length left) n leftLong,
-                  le-ltb (length right) n rightLong,
-                  lt-ltb (length work) (neighbourWork n) h,
-                )
-
-            pub none-applies : neighbourWork n ≤ length work → neighbourJudged keys handles left right work ≡ taken
-            unfolding neighbourJudged
-            none-applies h =
-                rw (
-                  le-ltb 32768 n few,
-                  le-ltb 0 (firstFall keys) rises,
-                  le-ltb (length handles) (handleCells n) handlesLong,
-                  le-ltb (length left) n leftLong,
-                  le-ltb (length right) n rightLong,
-                  le-ltb (length work) (neighbourWork n) h,
-                )
+-- a build that nothing keeps from its stores
+pub none-applies : (keys handles left right work : List ℕ) → length keys ≤ mostKeys → firstFall keys ≤ 0
+    → handleCells (length keys) ≤ length handles
+    → length keys ≤ length left → length keys ≤ length right → neighbourWork (length keys) ≤ length work
+    → neighbourJudged keys handles left right work ≡ taken
+unfolding neighbourJudged
+none-applies keys handles left right work few rises hl ll rl wl =
+    goes-on _ few (goes-on _ rises (goes-on _ hl (goes-on _ ll (goes-on _ rl (goes-on _ wl refl)))))

@@ -1,5 +1,5 @@
 -- What the build of map 3 over the bounds of the splits leaves. Assumes nothing.
-use mathlib.Core.Path.{_≡_, refl, sym, ap, _∙_}
+use mathlib.Core.Path.{_≡_, refl, ap, _∙_}
 use mathlib.Core.List.{List, _++_}
 use Prim.Native.Nat.{ℕ, _-_, _≤_, _<_}
 use native.Mathlib.Omega.{arith}
@@ -21,8 +21,10 @@ use Rattle.neighbour.specs.Build.{StoresBuilt, jam₃, filled}
 use Rattle.neighbour.specs.Inner.{Storable}
 
 -- a store with its first n entries written, cleared over them
-clear-written : (n : ℕ) (entry : ℕ → ℕ) (old : List ℕ) → cleared n (listed n entry ++ drop n old) ≡ cleared n old
-clear-written n entry old = ap (λ (xs : List ℕ). replicate n 0 ++ xs) (drop-at (listed n entry) (drop n old) n (length-listed n entry))
+clear-written : (n : ℕ) (entry : ℕ → ℕ) (old : List ℕ)
+    → cleared n (listed n entry ++ drop n old) ≡ cleared n old
+clear-written n entry old =
+    ap (λ (xs : List ℕ). replicate n 0 ++ xs) (drop-at (listed n entry) (drop n old) n (length-listed n entry))
 
 -- the cells and the work are long enough for map 3
 pub handles-room : (b : ℕ) (keys handles left right work : List ℕ) → Storable b keys handles left right work
@@ -32,8 +34,10 @@ handles-room b keys handles left right work S =
     record { forCells = rw (length-handles D) (S .handlesLong); forWork = rw (length-handles D) (S .workLong) }
 
 -- the table itself, with buckets of one row
-pub storable-table : (keys handles left right work : List ℕ) → Table keys → length keys ≤ 32768 → handleCells (length keys) ≤ length handles
-    → length keys ≤ length left → length keys ≤ length right → neighbourWork (length keys) ≤ length work → Storable 1 keys handles left right work
+pub storable-table : (keys handles left right work : List ℕ) → Table keys → length keys ≤ 32768
+    → handleCells (length keys) ≤ length handles
+    → length keys ≤ length left → length keys ≤ length right → neighbourWork (length keys) ≤ length work
+    → Storable 1 keys handles left right work
 storable-table keys handles left right work t few hl ll rl wl =
     let one = delimiters-one keys in
     record {
@@ -54,7 +58,8 @@ module _ (T : List ℕ) (seed : ℕ) (handles left right work handles′ work′
       → StoresBuilt T seed handles left right work taken handles′ l r work′
   stores-filled h l r el er = filled (B .accepted h .0) refl (B .accepted h .1) el er swept
 
-  pub stores-jammed : 0 < size → (l r l′ r′ : List ℕ) → l ≡ leftStore T left → r ≡ rightStore T right → l′ ≡ cleared (length T) l → r′ ≡ cleared (length T) r
+  pub stores-jammed : 0 < size → (l r l′ r′ : List ℕ) → l ≡ leftStore T left → r ≡ rightStore T right
+      → l′ ≡ cleared (length T) l → r′ ≡ cleared (length T) r
       → StoresBuilt T seed handles left right work (refused 5 3) handles′ l′ r′ work′
   stores-jammed h l r l′ r′ el er fl fr =
       let J = B .refused h in

@@ -1,57 +1,10 @@
--- What only the contracts of inner functions need: the sizes of what is lent, and the state of the walk between probes.
-use mathlib.Core.Path.{_≡_}
-use mathlib.Core.Bool.{cond}
+-- What only the contracts of inner functions need: what the stores can be built into.
 use mathlib.Core.List.{List}
-use Prim.Native.Nat.{ℕ, _+_, _-_, _≤_, _<_}
+use Prim.Native.Nat.{ℕ, _≤_}
 use lib.ListN.{length}
-use Rattle.words.specs.Keys.{prefixItem}
-use Rattle.cells.specs.Cells.{cellCount, mapValue}
 use Rattle.tables.specs.Tables.{Table}
 use Rattle.tables.specs.Delimiters.{delimiters, Bucketed}
-use Rattle.tables.specs.Lengths.{handleCount, handleCells, neighbourWork}
-use Rattle.splits.specs.Splits.{len}
-use Rattle.splits.specs.Inner.{SplitOf, Counted}
-use Rattle.walks.specs.Walk.{probeAt, accepted, descend}
-use Rattle.neighbour.specs.declared.walk.State.{State}
-use Rattle.neighbour.specs.declared.walk.Descended.{Descended}
-
--- what map 3 says of the first f bits of x
-abbrev pub handleValue : ℕ → (keys handles : List ℕ) → ℕ → ℕ → ℕ → ℕ
-handleValue b keys handles seed x f = mapValue handles (handleCount (length (delimiters b keys))) seed (prefixItem x f)
-
--- a table and stores of fitting sizes
-pub record Sizes (b : ℕ) (keys handles lefts rights : List ℕ) : Type 0 where
-  pub bucketed : Bucketed b keys
-  pub some-handles : cellCount (handleCount (length (delimiters b keys))) ≤ length handles
-  pub some-lefts : length (delimiters b keys) ≤ length lefts
-  pub some-rights : length (delimiters b keys) ≤ length rights
-
--- n counts the delimiters, and map 3 has cells enough for them
-pub record Lent (b : ℕ) (keys : List ℕ) (n : ℕ) (handles : List ℕ) : Type 0 where
-  pub counted : Counted b keys n
-  pub few : n ≤ 32768
-  pub cells : cellCount (n - 2) ≤ length handles
-
--- the node of a walk is a split, and lower its length
-pub record Node (b : ℕ) (keys : List ℕ) (node lower : ℕ) : Type 0 where
-  pub split : SplitOf b keys node
-  pub is : lower ≡ len (delimiters b keys) node
-  pub short : lower < 64
-
--- the state after one probe from a node below upper, where last is upper less 1
-pub record Stepped (T : List ℕ) (x : ℕ) (find : ℕ → ℕ) (node upper : ℕ) (s : State) : Type 0 where
-  pub node-is : let f = probeAt T node upper in s .node ≡ cond (accepted T x f upper (find f)) (find f) node
-  pub upper-is : let f = probeAt T node upper in s .last + 1 ≡ cond (accepted T x f upper (find f)) upper f
-  pub lower-is : s .lower ≡ len T (s .node)
-
--- where the probes from a root end
-pub record Reached (T : List ℕ) (x : ℕ) (find : ℕ → ℕ) (root : ℕ) (d : Descended) : Type 0 where
-  pub node-is : d .node ≡ descend T x find 64 root 64 .node
-  pub probes-is : d .probes ≡ length (descend T x find 64 root 64 .probed)
-  pub pos : 0 < d .node
-  pub small : d .node < length T
-  pub lower-is : d .lower ≡ len T (d .node)
-  pub short : d .lower < 64
+use Rattle.tables.specs.Lengths.{handleCells, neighbourWork}
 
 -- a table whose delimiters are counted, and stores and work with room for them
 pub record Storable (b : ℕ) (keys handles left right work : List ℕ) : Type 0 where

@@ -1,23 +1,12 @@
 // Asking the neighbour index.
 ghost use mathlib.Core.Path.{_≡_};
-ghost use Rattle.neighbour.specs.Ask.{saidByNeighbour, neighbourSays};
-use crate::walk;
+ghost use Rattle.places.specs.Said.{saidByNeighbour};
+ghost use Rattle.neighbour.specs.Ask.{neighbourSays};
+use places::NeighbourAnswer;
 use refusals::Refusal;
 
-// Where x stands: the keys before it, the probes made, and whether it is in the table.
-pub struct Place {
-    pub before: usize,
-    pub probes: usize,
-    pub stands: bool,
-}
-
-pub enum NeighbourAnswer {
-    At(Place),
-    Refused(Refusal),
-}
-
-// How many keys stand before x. Refusal 1 for more than 32,768 keys; 4 for the first store that is too short, of 2 handle cells, 3 left
-// and 4 right; 6 for spoiled bounds.
+// How many keys stand before x. Refusal 1 for more than 32,768 keys; 4 for the first store that is too short, of 2
+// handle cells, 3 left and 4 right; 6 for spoiled bounds.
 pub fn neighbour_ask(
     keys: &[u64],
     seed3: u64,
@@ -26,7 +15,8 @@ pub fn neighbour_ask(
     right: &[u16],
     x: u64,
 ) -> NeighbourAnswer
-    ensures { λ r. ⌜ saidByNeighbour r ≡ neighbourSays (now (keys .entry)) (now (handles .entry)) (now (left .entry)) (now (right .entry)) seed3 x ⌝ }
+    ensures { λ r. ⌜ saidByNeighbour r ≡ neighbourSays (now (keys .entry)) (now (handles .entry))
+        (now (left .entry)) (now (right .entry)) seed3 x ⌝ }
 {
     let n = keys.len();
     if n > 32768 {
@@ -41,5 +31,5 @@ pub fn neighbour_ask(
     if right.len() < n {
         return NeighbourAnswer::Refused(Refusal::Short(4));
     }
-    walk::walk_from(keys, 1, seed3, handles, left, right, x)
+    places::walk_from(keys, 1, seed3, handles, left, right, x)
 }

@@ -7,7 +7,8 @@ use items::Items;
 use refusals::Refusal;
 use refusals::Verdict;
 
-// The stores over the delimiters of buckets of b rows, once nothing else is refused; with b = 1 they are those of the table itself.
+// The stores over the delimiters of buckets of b rows, once nothing else is refused; with b = 1 they are those of the
+// table itself.
 pub fn build_stores(
     keys: &[u64],
     b: usize,
@@ -18,7 +19,8 @@ pub fn build_stores(
     work: &mut [u16],
 ) -> Verdict
     requires { ⌜ Storable b (now keys) (now handles) (now left) (now right) (now work) ⌝ }
-    ensures { λ r. ⌜ StoresBuilt (delimiters b (now (keys .entry))) seed3 (now (handles .entry)) (now (left .entry)) (now (right .entry)) (now (work .entry))
+    ensures { λ r. ⌜ StoresBuilt (delimiters b (now (keys .entry))) seed3 (now (handles .entry))
+        (now (left .entry)) (now (right .entry)) (now (work .entry))
         (saidByBuild r) (now (handles .exit)) (now (left .exit)) (now (right .exit)) (now (work .exit)) ⌝ }
 {
     splits::bounds::build_bounds(keys, b, left, right);
@@ -40,7 +42,8 @@ pub fn neighbour_build(
     right: &mut [u16],
     work: &mut [u16],
 ) -> Verdict
-    ensures { λ r. ⌜ NeighbourBuilt (now (keys .entry)) seed3 (now (handles .entry)) (now (left .entry)) (now (right .entry)) (now (work .entry))
+    ensures { λ r. ⌜ NeighbourBuilt (now (keys .entry)) seed3 (now (handles .entry)) (now (left .entry))
+        (now (right .entry)) (now (work .entry))
         (saidByBuild r) (now (handles .exit)) (now (left .exit)) (now (right .exit)) (now (work .exit)) ⌝ }
 {
     let n = keys.len();

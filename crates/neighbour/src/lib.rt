@@ -1,12 +1,12 @@
-// The neighbour index (document 01, "Neighbour index"): how many keys of a table stand before any x, by an exact z-fast trie.
+// The neighbour index (document 01, "Neighbour index"): how many keys of a table stand before any x, by an exact
+// z-fast trie.
 //
-// Every function is proved and the crate assumes nothing. The entry `neighbour_ask` has no `requires`: whatever table and stores it
-// is lent, it answers or refuses as specs/Ask.antt says.
+// Every function is proved and the crate assumes nothing. The entry `neighbour_ask` has no `requires`: whatever table
+// and stores it is lent, it answers or refuses as specs/Ask.antt says.
 pub mod ask;
 pub mod build;
-pub mod walk;
 
-pub use ask::NeighbourAnswer;
-pub use ask::Place;
 pub use ask::neighbour_ask;
 pub use build::neighbour_build;
+pub use places::NeighbourAnswer;
+pub use places::Place;

@@ -1,3 +1,5 @@
--- The definitions that the contracts of `rowanswer` cite. What stands in Inner only inner functions' contracts need.
+-- The definitions that the contracts of `rowanswer` cite, and that its entry's leaves one result. What stands in Inner
+-- only inner functions' contracts need.
 pub mod Answers
+pub mod Determined
 pub mod Inner

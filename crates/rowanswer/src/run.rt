@@ -3,22 +3,24 @@ ghost use mathlib.Core.Path.{_≡_};
 ghost use Prim.Native.Nat.{_≤_};
 ghost use lib.ListN.{length};
 ghost use Rattle.io.specs.Counts.{Counts};
-ghost use Rattle.rowtext.specs.Output.{refusalText};
-ghost use Rattle.rowanswer.specs.Answers.{answered, TableText, RowcheckText, Shown, Shows};
-ghost use Rattle.rowanswer.specs.Inner.{Answering, Rowed};
-use crate::asks::answer_asks;
-use crate::seeds::Choice;
-use crate::seeds::first_seed;
+ghost use Rattle.index.specs.Answers.{Answers};
+ghost use Rattle.refusals.specs.Numbers.{number};
+ghost use Rattle.rowtext.specs.Output.{refusedText};
+ghost use Rattle.rowanswer.specs.Answers.{answered, TableText, RowcheckText, Shows};
+ghost use Rattle.rowanswer.specs.Inner.{ShownWhereRoom, ShowsWhereRoom};
+use asks::answer_asks;
 use digits::Next;
-use refusals::Refusal;
+use index::Refusal;
 use rowtext::Input;
 use rowtext::printer::write_head;
 use rowtext::printer::write_refusal;
 use rowtext::reader::read_input;
+use seeds::Choice;
+use seeds::first_seed;
 
 // The refusal at the start of `out`, and how many bytes.
 fn refuse(out: &mut [u8], refusal: Refusal) -> usize
-    ensures { λ r. ⌜ Shown (refusalText refusal) (now (out .entry)) r (now (out .exit)) ⌝ }
+    ensures { λ r. ⌜ ShownWhereRoom (refusedText (number refusal)) (now (out .entry)) r (now (out .exit)) ⌝ }
 {
     write_refusal(out, 0, refusal).or(0)
 }
@@ -35,8 +37,10 @@ fn print_answers(
     asks: &[u64],
     out: &mut [u8],
 ) -> usize
-    requires { ⌜ Answering (now keys) b seed (now cells) (now handles) (now left) (now right) ⌝ }
-    ensures { λ r. ⌜ Shown (answered (now (keys .entry)) (now (asks .entry))) (now (out .entry)) r (now (out .exit)) ⌝ }
+    requires { ⌜ Answers (now keys) b seed seed seed (now cells) (now handles) (now left) (now right) ⌝ }
+    ensures { λ r.
+        ⌜ ShownWhereRoom (answered (now (keys .entry)) (now (asks .entry)))
+        (now (out .entry)) r (now (out .exit)) ⌝ }
 {
     let Next::At(i) = write_head(out, 0, keys.len()) else {
         return 0;
@@ -44,7 +48,7 @@ fn print_answers(
     answer_asks(keys, b, seed, cells, handles, left, right, asks, out, i).or(0)
 }
 
-// The answers by the first seed that is taken, in stores as long as 2,048 keys can want.
+// The answers by the first seed that is taken, in stores as long as 2,048 keys can want; or the refusal of the table.
 fn answer_in(
     keys: &[u64],
     b: usize,
@@ -56,19 +60,23 @@ fn answer_in(
     work: &mut [u16; 9274],
     out: &mut [u8],
 ) -> usize
-    requires { ⌜ Rowed (now keys) b ⌝ }
-    ensures { λ r. ⌜ Shows (TableText (now (keys .entry)) b (now (asks .entry))) (now (out .entry)) r (now (out .exit)) ⌝ }
+    requires { ⌜ length (now keys) ≤ 2048 ⌝ }
+    ensures { λ r.
+        ⌜ ShowsWhereRoom (TableText (now (keys .entry)) b (now (asks .entry)))
+        (now (out .entry)) r (now (out .exit)) ⌝ }
 {
     match first_seed(keys, b, cells, handles, left, right, work) {
         Choice::Seed(seed) => print_answers(keys, b, seed, cells, handles, left, right, asks, out),
-        Choice::None => refuse(out, Refusal::Jammed(1)),
+        Choice::Refused(refusal) => refuse(out, refusal),
     }
 }
 
 // The same, in stores of its own.
-fn answer_seeds(keys: &[u64], b: usize, asks: &[u64], out: &mut [u8]) -> usize
-    requires { ⌜ Rowed (now keys) b ⌝ }
-    ensures { λ r. ⌜ Shows (TableText (now (keys .entry)) b (now (asks .entry))) (now (out .entry)) r (now (out .exit)) ⌝ }
+fn answer_table(keys: &[u64], b: usize, asks: &[u64], out: &mut [u8]) -> usize
+    requires { ⌜ length (now keys) ≤ 2048 ⌝ }
+    ensures { λ r.
+        ⌜ ShowsWhereRoom (TableText (now (keys .entry)) b (now (asks .entry)))
+        (now (out .entry)) r (now (out .exit)) ⌝ }
 {
     let mut cells = [0u16; 5178];
     let mut handles = [0u16; 2589];
@@ -88,28 +96,10 @@ fn answer_seeds(keys: &[u64], b: usize, asks: &[u64], out: &mut [u8]) -> usize
     )
 }
 
-// The answers to a table of at most 2,048 keys, after refusals 2 and 3.
-fn answer_table(keys: &[u64], b: usize, asks: &[u64], out: &mut [u8]) -> usize
-    requires { ⌜ length (now keys) ≤ 2048 ⌝ }
-    ensures { λ r. ⌜ Shows (TableText (now (keys .entry)) b (now (asks .entry))) (now (out .entry)) r (now (out .exit)) ⌝ }
-{
-    if b < 2 {
-        return refuse(out, Refusal::BucketSize);
-    }
-    if 256 < b {
-        return refuse(out, Refusal::BucketSize);
-    }
-    let row = tables::table::first_fall(keys);
-    if 0 < row {
-        return refuse(out, Refusal::Falls(row));
-    }
-    answer_seeds(keys, b, asks, out)
-}
-
 // The input is read into the lent slices, and answered.
 fn answer_read(input: &[u8], keys: &mut [u64], asks: &mut [u64], out: &mut [u8]) -> usize
     requires { ⌜ (length (now keys) ≡ 2048) × (length (now asks) ≡ 512) ⌝ }
-    ensures { λ r. ⌜ Shows (RowcheckText (now (input .entry))) (now (out .entry)) r (now (out .exit)) ⌝ }
+    ensures { λ r. ⌜ ShowsWhereRoom (RowcheckText (now (input .entry))) (now (out .entry)) r (now (out .exit)) ⌝ }
 {
     match read_input(input, keys, asks) {
         Input::Taken {
@@ -123,13 +113,14 @@ fn answer_read(input: &[u8], keys: &mut [u64], asks: &mut [u64], out: &mut [u8])
 
 // The same, with room for as many keys and asks as document 01 allows.
 fn answer_lent(input: &[u8], keys: &mut [u64; 2048], asks: &mut [u64; 512], out: &mut [u8]) -> usize
-    ensures { λ r. ⌜ Shows (RowcheckText (now (input .entry))) (now (out .entry)) r (now (out .exit)) ⌝ }
+    ensures { λ r. ⌜ ShowsWhereRoom (RowcheckText (now (input .entry))) (now (out .entry)) r (now (out .exit)) ⌝ }
 {
     answer_read(input, keys, asks, out)
 }
 
-// What rowcheck prints of the input, at the start of `out`, and how many bytes.
-pub fn answer(input: &[u8], out: &mut [u8]) -> usize
+// What rowcheck prints of the input, at the start of `out`, and how many bytes. No text is longer than `out`
+// (specs/Answers, `LongestText`).
+pub fn answer(input: &[u8], out: &mut [u8; 65536]) -> usize
     ensures counts { λ r. ⌜ Counts r (now (out .exit)) ⌝ }
     ensures says { λ r. ⌜ Shows (RowcheckText (now (input .entry))) (now (out .entry)) r (now (out .exit)) ⌝ }
 {

@@ -2,7 +2,7 @@
 --   Scanning: what the readers say of the input, taken together
 --   Printing: the four lines of an ask, one after the other
 --   Determined: what specs/Determined.antt states
---   Worked: document 01's input and output, as theorems
+--   Worked: what specs/Worked.antt states
 pub mod Scanning
 pub mod Printing
 pub mod Determined

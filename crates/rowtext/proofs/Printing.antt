@@ -1,5 +1,5 @@
--- The four lines of an ask: how long they are and can be, and that lines put one after the other in a room for all are the whole.
--- Assumes nothing.
+-- The four lines of an ask: how long they are and can be, and that lines put one after the other in a room for all
+-- are the whole. Assumes nothing.
 use Prim.Native.Nat.{ℕ, _+_, _^_, _<_, _≤_}
 use native.Mathlib.Omega.{arith}
 use mathlib.Core.List.{List, _++_}
@@ -13,7 +13,9 @@ use Rattle.digits.proofs.Hexes.{hex-length}
 use Rattle.lines.specs.Lines.{line}
 use Rattle.lines.specs.declared.Kind.the-variants.{Decimal, Hex}
 use Rattle.lines.proofs.Lining.{line-size}
-use Rattle.rowtext.specs.Output.{callText, askText}
+use Rattle.refusals.specs.Numbers.{number}
+use Rattle.refusals.specs.declared.Refusal.{Refusal}
+use Rattle.rowtext.specs.Output.{callText, askText, refusedText}
 use Rattle.rowtext.specs.declared.Called.{Called}
 use Rattle.rowtext.specs.declared.Called.the-variants.{Row, Absent}
 
@@ -36,15 +38,24 @@ module _ (x : ℕ) (call : Called) (before probes : ℕ) where
       let c = length-append (beforeLine before) (probesLine probes) in
       omega arith
 
-  pub four-lines : (out o₁ o₂ o₃ after : List ℕ) (i j₁ j₂ j₃ : ℕ) (r₁ r₂ r₃ r : Next) → i + length (askText x call before probes) ≤ length out
-      → Writes (keyLine x) out i o₁ r₁ → j₁ ≡ nextOr r₁ i → Writes (callText call) o₁ j₁ o₂ r₂ → j₂ ≡ nextOr r₂ j₁
-      → Writes (beforeLine before) o₂ j₂ o₃ r₃ → j₃ ≡ nextOr r₃ j₂ → Writes (probesLine probes) o₃ j₃ after r
+  pub four-lines : (out o₁ o₂ o₃ after : List ℕ) (i j₁ j₂ j₃ : ℕ) (r₁ r₂ r₃ r : Next)
+      → i + length (askText x call before probes) ≤ length out
+      → Writes (keyLine x) out i o₁ r₁ → j₁ ≡ nextOr r₁ i → Writes (callText call) o₁ j₁ o₂ r₂
+      → j₂ ≡ nextOr r₂ j₁
+      → Writes (beforeLine before) o₂ j₂ o₃ r₃ → j₃ ≡ nextOr r₃ j₂
+      → Writes (probesLine probes) o₃ j₃ after r
       → Writes (askText x call before probes) out i after r
   unfolding askText
   four-lines out o₁ o₂ o₃ after i j₁ j₂ j₃ r₁ r₂ r₃ r room w₁ e₁ w₂ e₂ w₃ e₃ w =
-      writes-on (keyLine x) (callText call ++ (beforeLine before ++ probesLine probes)) out o₁ after i j₁ i r₁ r room w₁ e₁
-      (λ room₁. writes-on (callText call) (beforeLine before ++ probesLine probes) o₁ o₂ after j₁ j₂ j₁ r₂ r room₁ w₂ e₂
-      (λ room₂. writes-on (beforeLine before) (probesLine probes) o₂ o₃ after j₂ j₃ j₂ r₃ r room₂ w₃ e₃ (λ room₃. w)))
+      writes-on _ _ _ _ _ i j₁ i _ _ room w₁ e₁
+      (λ room₁. writes-on _ _ _ _ _ j₁ j₂ j₁ _ _ room₁ w₂ e₂
+      (λ room₂. writes-on _ _ _ _ _ j₂ j₃ j₂ _ _ room₂ w₃ e₃ (λ room₃. w)))
+
+-- the line with a number that is the refusal's
+pub refusal-put : (k : ℕ) (refusal : Refusal) (out after : List ℕ) (i : ℕ) (r : Next)
+    → Writes (refusedText k) out i after r
+    → k ≡ number refusal → Writes (refusedText (number refusal)) out i after r
+refusal-put k refusal out after i r w e = rw e at w
 
 -- a row of 64 bits, or none
 abbrev pub Narrow : Called → Type 0
@@ -59,11 +70,13 @@ call-longest (Row row) h = decimal-longest (bytes "call=") row h
 call-longest Absent h = omega arith
 
 -- so 103 bytes are room for any answer
-pub ask-longest : (x : ℕ) (call : Called) (before probes : ℕ) → Narrow call → before < 2 ^ 64 → probes < 2 ^ 64
+pub ask-longest : (x : ℕ) (call : Called) (before probes : ℕ) → Narrow call → before < 2 ^ 64
+    → probes < 2 ^ 64
     → length (askText x call before probes) ≤ 103
 ask-longest x call before probes hc hb hp =
     let a = ask-size x call before probes in
-    let b : length (keyLine x) ≡ 4 + 16 + 1 = line-size Hex (bytes "ask=") x ∙ ap (λ (n : ℕ). 4 + n + 1) (hex-length x) in
+    let b : length (keyLine x) ≡ 4 + 16 + 1 =
+    line-size Hex (bytes "ask=") x ∙ ap (λ (n : ℕ). 4 + n + 1) (hex-length x) in
     let c = call-longest call hc in
     let d : length (beforeLine before) ≤ 7 + 21 = decimal-longest (bytes "before=") before hb in
     let e : length (probesLine probes) ≤ 7 + 21 = decimal-longest (bytes "probes=") probes hp in

@@ -1,55 +1,15 @@
--- Document 01's input and what it prints, and the smallest and largest numbers, as the definitions have them. Assumes nothing.
-use Prim.Native.Nat.{ℕ, _-_}
-use mathlib.Core.Bool.{cond}
-use mathlib.Core.List.{List, [], _∷_, _++_}
-use mathlib.Core.Path.{_≡_, refl}
-use lib.Dec.{eqb}
-use Rattle.digits.specs.Texts.{bytes}
-use Rattle.digits.specs.Numbers.{decimalText, countIn, hexText, digitsIn, mostWord}
+-- What specs/Worked.antt states, by computing. Assumes nothing.
+use mathlib.Core.Path.{refl}
+use Rattle.digits.specs.Numbers.{decimalText, countIn, hexText, digitsIn}
 use Rattle.lines.specs.Lines.{texts}
-use Rattle.refusals.specs.declared.Refusal.the-variants.{Jammed}
 use Rattle.rowtext.specs.Input.{rowText}
-use Rattle.rowtext.specs.Output.{askText, answersText, refusalText}
-use Rattle.rowtext.specs.declared.Called.{Called}
-use Rattle.rowtext.specs.declared.Called.the-variants.{Row, Absent}
+use Rattle.rowtext.specs.Output.{askText, answersText}
+use Rattle.rowtext.specs.Worked.{TextsWorked, NumbersWorked}
 
--- bucket 2 and keys 2, 3, 8, asks 3, 9, 16, 0
-abbrev sampleInput : List ℕ
-sampleInput =
-    bytes "bucket=2\nkeys=3\nkey=0000000000000002\nkey=0000000000000003\nkey=0000000000000008\nasks=4\n"
-    ++ bytes "ask=0000000000000003\nask=0000000000000009\nask=0000000000000010\nask=0000000000000000\n"
+pub texts-worked : TextsWorked
+unfolding rowText answersText askText texts hexText decimalText digitsIn countIn
+texts-worked = (refl, refl)
 
--- what it prints, and the answers that it prints
-abbrev sampleOutput : List ℕ
-sampleOutput =
-    bytes "keys=3\nask=0000000000000003\ncall=1\nbefore=1\nprobes=1\nask=0000000000000009\ncall=none\nbefore=3\nprobes=2\n"
-    ++ bytes "ask=0000000000000010\ncall=none\nbefore=3\nprobes=0\nask=0000000000000000\ncall=none\nbefore=0\nprobes=2\n"
-
-abbrev sampleCall : ℕ → Called
-sampleCall x = cond (eqb x 3) (Row 1) Absent
-
-abbrev sampleBefore : ℕ → ℕ
-sampleBefore x = cond (eqb x 0) 0 (cond (eqb x 3) 1 3)
-
-abbrev sampleProbes : ℕ → ℕ
-sampleProbes x = cond (eqb x 3) 1 (cond (eqb x 16) 0 2)
-
-pub input-worked : rowText 2 (2 ∷ 3 ∷ 8 ∷ []) (3 ∷ 9 ∷ 16 ∷ 0 ∷ []) ≡ sampleInput
-unfolding rowText texts hexText decimalText digitsIn countIn
-input-worked = refl
-
-pub output-worked : answersText 3 sampleCall sampleBefore sampleProbes (3 ∷ 9 ∷ 16 ∷ 0 ∷ []) ≡ sampleOutput
-unfolding answersText askText texts hexText decimalText digitsIn countIn
-output-worked = refl
-
-pub refusal-worked : refusalText (Jammed 2) ≡ bytes "refused=5\n"
-unfolding decimalText digitsIn countIn
-refusal-worked = refl
-
-pub decimals-worked : (decimalText 0 ≡ bytes "0") × (decimalText 65535 ≡ bytes "65535") × (decimalText mostWord ≡ bytes "18446744073709551615")
-unfolding decimalText digitsIn countIn
-decimals-worked = (refl, refl, refl)
-
-pub hex-worked : hexText (mostWord - 1) ≡ bytes "fffffffffffffffe"
-unfolding hexText digitsIn
-hex-worked = refl
+pub numbers-worked : NumbersWorked
+unfolding hexText decimalText digitsIn countIn
+numbers-worked = (refl, refl, refl, refl, refl)

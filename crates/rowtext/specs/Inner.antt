@@ -1,23 +1,32 @@
--- What the contract of the inner reader cites: a count line and that many lines.
-use Prim.Native.Nat.{ℕ, _≤_}
-use mathlib.Core.List.{List}
-use lib.ListN.{length}
+-- What the contract of the inner reader cites: a count line and that many lines, whose numbers are loaded.
+use Prim.Native.Nat.{ℕ, _≤_, min}
+use mathlib.Core.List.{List, _++_}
+use mathlib.Core.Path.{_≡_}
+use lib.ListN.{length, drop}
 use Rattle.digits.specs.Texts.{Has, Hasnt}
 use Rattle.digits.specs.Numbers.{mostWord}
-use Rattle.lines.specs.Lines.{line, AllWithin, LinesAt}
-use Rattle.lines.specs.declared.Kind.the-variants.{Hex}
+use Rattle.lines.specs.Lines.{AllWithin}
 use Rattle.rowtext.specs.Input.{listText}
 use Rattle.rowtext.specs.declared.reader.Listed.{Listed}
 use Rattle.rowtext.specs.declared.reader.Listed.the-variants.{Lines, None}
 
--- s has the text of n numbers at i, whose lines are at `at` and end at `end`
-pub record ListAt (most : ℕ) (head tag s : List ℕ) (i n at end : ℕ) : Type 0 where
+-- s has the text of n numbers at i, which ends at `end`, and the numbers are put at the start of `out`, which is left
+-- as `after`
+pub record ListAt (most : ℕ) (head tag s : List ℕ) (i : ℕ) (out after : List ℕ) (n end : ℕ) : Type 0 where
   pub xs : List ℕ
-  pub count : n ≤ most
+  pub count : length xs ≡ n
+  pub few : n ≤ min (length out) most
+  pub words : AllWithin mostWord xs
   pub text : Has s i (listText head tag xs) end
-  pub linesAt : LinesAt mostWord (line Hex tag) n s at end xs
+  pub held : after ≡ xs ++ drop n out
 
--- what a reader says that looks for the text of at most `most` numbers at i
-unfoldable pub Lists : ℕ → List ℕ → List ℕ → List ℕ → ℕ → Listed → Type 0
-Lists most head tag s i (Lines n at end) = ListAt most head tag s i n at end
-Lists most head tag s i None = (xs : List ℕ) → length xs ≤ most → AllWithin mostWord xs → Hasnt s i (listText head tag xs)
+-- s has the text of no such numbers at i
+abbrev pub NoList : ℕ → List ℕ → List ℕ → List ℕ → ℕ → Type 0
+NoList most head tag s i =
+    (xs : List ℕ) → length xs ≤ most → AllWithin mostWord xs → Hasnt s i (listText head tag xs)
+
+-- what a reader says that looks for the text of at most `most` numbers at i, and for which there is room in `out`
+unfoldable pub LoadsList : ℕ → List ℕ → List ℕ → List ℕ → ℕ → List ℕ → List ℕ → Listed
+    → Type 0
+LoadsList most head tag s i out after (Lines n end) = ListAt most head tag s i out after n end
+LoadsList most head tag s i out after None = NoList (min (length out) most) head tag s i

@@ -4,8 +4,6 @@ use mathlib.Core.List.{List, _++_}
 use Rattle.digits.specs.Texts.{bytes}
 use Rattle.lines.specs.Lines.{line, texts}
 use Rattle.lines.specs.declared.Kind.the-variants.{Decimal, Hex}
-use Rattle.refusals.specs.Numbers.{number}
-use Rattle.refusals.specs.declared.Refusal.{Refusal}
 use Rattle.rowtext.specs.declared.Called.{Called}
 use Rattle.rowtext.specs.declared.Called.the-variants.{Row, Absent}
 
@@ -21,12 +19,13 @@ callText Absent = bytes "call=none\n"
 -- `ask` is the key, `before` and `probes` the neighbour answer
 unfoldable pub askText : ℕ → Called → ℕ → ℕ → List ℕ
 askText x call before probes =
-    line Hex (bytes "ask=") x ++ (callText call ++ (line Decimal (bytes "before=") before ++ line Decimal (bytes "probes=") probes))
+    line Hex (bytes "ask=") x
+    ++ (callText call ++ (line Decimal (bytes "before=") before ++ line Decimal (bytes "probes=") probes))
 
 -- all of it, for n keys and the asks qs, where the indexes answer call x, before x and probes x
 unfoldable pub answersText : ℕ → (ℕ → Called) → (ℕ → ℕ) → (ℕ → ℕ) → List ℕ → List ℕ
 answersText n call before probes qs = headText n ++ texts (λ x. askText x (call x) (before x) (probes x)) qs
 
--- a refusal's number
-abbrev pub refusalText : Refusal → List ℕ
-refusalText f = line Decimal (bytes "refused=") (number f)
+-- a refusal, by its number alone
+abbrev pub refusedText : ℕ → List ℕ
+refusedText k = line Decimal (bytes "refused=") k

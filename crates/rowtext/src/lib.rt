@@ -1,4 +1,5 @@
-// The text of `rowcheck` (document 01, "`rowcheck`"): its input is read from a slice of bytes, and what it prints is written to one.
+// The text of `rowcheck` (document 01, "`rowcheck`"): its input is read from a slice of bytes, and what it prints is
+// written to one.
 //
 // Every function is proved and the crate assumes nothing. No public function has a `requires`.
 use refusals::Refusal;

@@ -1,10 +1,11 @@
-// What `rowcheck` prints. Each function writes its lines at position i, or nothing where there is no room for all of them.
+// What `rowcheck` prints. Each function writes its lines at position i, or nothing where there is no room for all of
+// them.
 ghost use mathlib.Core.Path.{_≡_};
 ghost use Prim.Native.Nat.{_≤_};
 ghost use lib.ListN.{length};
 ghost use Rattle.digits.specs.Texts.{Writes};
 ghost use Rattle.refusals.specs.Numbers.{number};
-ghost use Rattle.rowtext.specs.Output.{headText, callText, askText, refusalText};
+ghost use Rattle.rowtext.specs.Output.{headText, callText, askText, refusedText};
 use crate::Called;
 use digits::Next;
 use lines::Kind;
@@ -19,27 +20,11 @@ pub fn write_head(out: &mut [u8], i: usize, n: usize) -> Next
     line::write_line(out, i, b"keys=", Kind::Decimal, n as u64)
 }
 
-// The number of a refusal.
-fn number_of(refusal: Refusal) -> u64
-    ensures { λ r. ⌜ r ≡ number refusal ⌝ }
-{
-    match refusal {
-        Refusal::TooManyKeys => 1,
-        Refusal::BucketSize => 2,
-        Refusal::Falls(_) => 3,
-        Refusal::Short(_) => 4,
-        Refusal::Jammed(_) => 5,
-        Refusal::Spoiled => 6,
-        Refusal::Field => 7,
-        Refusal::Text => 8,
-    }
-}
-
 // A refusal, `refused=` and its number alone.
 pub fn write_refusal(out: &mut [u8], i: usize, refusal: Refusal) -> Next
-    ensures { λ r. ⌜ Writes (refusalText refusal) (now (out .entry)) i (now (out .exit)) r ⌝ }
+    ensures { λ r. ⌜ Writes (refusedText (number refusal)) (now (out .entry)) i (now (out .exit)) r ⌝ }
 {
-    line::write_line(out, i, b"refused=", Kind::Decimal, number_of(refusal))
+    line::write_line(out, i, b"refused=", Kind::Decimal, refusal.number())
 }
 
 fn call_length(call: Called) -> usize
@@ -70,7 +55,8 @@ fn ask_length(x: u64, call: Called, before: usize, probes: usize) -> usize
         + line::line_length(b"probes=", Kind::Decimal, probes as u64)
 }
 
-// The four lines of an ask: the key, the call index's row or none, and the neighbour answer's number before and its probes.
+// The four lines of an ask: the key, the call index's row or none, and the neighbour answer's number before and its
+// probes.
 pub fn write_ask(
     out: &mut [u8],
     i: usize,

@@ -1,8 +1,6 @@
 // The input: a bucket size, keys and asks.
-ghost use mathlib.Core.Path.{_≡_};
-ghost use Prim.Native.Nat.{min};
 ghost use Rattle.rowtext.specs.Input.{ReadsInput};
-ghost use Rattle.rowtext.specs.Inner.{Lists};
+ghost use Rattle.rowtext.specs.Inner.{LoadsList};
 use crate::Input;
 use digits::Next;
 use digits::Read;
@@ -14,35 +12,30 @@ use refusals::Refusal;
 // Keys are any 64-bit numbers.
 const WORD: u64 = 0xffff_ffff_ffff_ffff;
 
-// A count line and that many lines: how many, where they begin and where they end.
+// A count line and that many lines: how many, and where they end.
 enum Listed {
-    Lines { n: usize, at: usize, end: usize },
+    Lines { n: usize, end: usize },
     None,
 }
 
-// The line `head` with a count up to `most` at i, and that many lines `tag` with 16 hexadecimal digits.
-fn list_at(s: &[u8], i: usize, head: &[u8], tag: &[u8], most: u64) -> Listed
-    ensures { λ r. ⌜ Lists most (now (head .entry)) (now (tag .entry)) (now (s .entry)) i r ⌝ }
+// The line `head` with a count up to `most` at i, and that many lines `tag` with 16 hexadecimal digits, whose numbers
+// are put at the start of `out`.
+fn load_list(s: &[u8], i: usize, head: &[u8], tag: &[u8], most: u64, out: &mut [u64]) -> Listed
+    ensures { λ r. ⌜ LoadsList most (now (head .entry)) (now (tag .entry)) (now (s .entry)) i (now (out .entry)) (now (out .exit)) r ⌝ }
 {
     let Read::Value { value, next } = line::read_line(s, i, head, Kind::Decimal, most) else {
         return Listed::None;
     };
     let n = value as usize;
-    match many::lines_end(s, next, tag, Kind::Hex, WORD, n) {
-        Next::At(end) => Listed::Lines { n, at: next, end },
+    match many::load_u64(s, next, tag, Kind::Hex, WORD, n, out) {
+        Next::At(end) => Listed::Lines { n, end },
         Next::Off => Listed::None,
     }
 }
 
-fn least(a: usize, b: u64) -> u64
-    ensures { λ r. ⌜ r ≡ min a b ⌝ }
-{
-    let w = a as u64;
-    if w < b { w } else { b }
-}
-
-// Takes the input exactly if it is the text of a bucket size up to 65,535, at most 2,048 keys and at most 512 asks for which the
-// slices have room. All of it is judged before a key is put into `keys` or an ask into `asks`, so a refusal changes nothing.
+// Takes the input exactly if it is the text of a bucket size up to 65,535, at most 2,048 keys and at most 512 asks
+// for which the slices have room. Each line is read once, and its number stored at once: the slices are the program's
+// own, so after a refusal they may hold what was read so far.
 pub fn read_input(s: &[u8], keys: &mut [u64], asks: &mut [u64]) -> Input
     ensures { λ r. ⌜ ReadsInput (now (s .entry)) (now (keys .entry)) (now (asks .entry)) (now (keys .exit)) (now (asks .exit)) r ⌝ }
 {
@@ -53,27 +46,15 @@ pub fn read_input(s: &[u8], keys: &mut [u64], asks: &mut [u64]) -> Input
     else {
         return Input::Refused(Refusal::Text);
     };
-    let Listed::Lines {
-        n,
-        at: keys_at,
-        end,
-    } = list_at(s, next, b"keys=", b"key=", least(keys.len(), 2048))
-    else {
+    let Listed::Lines { n, end } = load_list(s, next, b"keys=", b"key=", 2048, keys) else {
         return Input::Refused(Refusal::Text);
     };
-    let Listed::Lines {
-        n: m,
-        at: asks_at,
-        end: last,
-    } = list_at(s, end, b"asks=", b"ask=", least(asks.len(), 512))
-    else {
+    let Listed::Lines { n: m, end: last } = load_list(s, end, b"asks=", b"ask=", 512, asks) else {
         return Input::Refused(Refusal::Text);
     };
     if last != s.len() {
         return Input::Refused(Refusal::Text);
     }
-    many::load_u64(s, keys_at, b"key=", Kind::Hex, WORD, n, keys);
-    many::load_u64(s, asks_at, b"ask=", Kind::Hex, WORD, m, asks);
     Input::Taken {
         bucket: bucket as usize,
         keys: n,

@@ -11,6 +11,12 @@ pub enum Sample {
     Bits,
 }
 
+// How the keys stand in the rows: key i in row i, or the first n turned round.
+pub enum Order {
+    Rising,
+    Turned(usize),
+}
+
 // Key i is start + floor(i / group) * leap + (i mod group) * step + (mix(i) mod spread).
 fn ruled(i: u64, start: u64, group: u64, leap: u64, step: u64, spread: u64) -> u64
     requires { ⌜ (0 < group) × (0 < spread) ⌝ }
@@ -39,24 +45,27 @@ fn key_at(sample: Sample, i: u64) -> u64 {
     }
 }
 
+// The number of the key that stands in row i.
+fn row_key(order: Order, i: usize) -> usize {
+    match order {
+        Order::Rising => i,
+        Order::Turned(n) => { if i < n { n - 1 - i } else { i } }
+    }
+}
+
 // Fills the whole slice with the sample's first keys.
-pub fn fill(sample: Sample, keys: &mut [u64]) {
+pub fn fill(sample: Sample, order: Order, keys: &mut [u64]) {
     let mut i = 0;
     while i < keys.len() {
-        keys[i] = key_at(sample, i as u64);
+        keys[i] = key_at(sample, row_key(order, i) as u64);
         i += 1;
     }
 }
 
-// Turns the table round: rows i and n - 1 - i are exchanged.
-pub fn turn(keys: &mut [u64]) {
-    let n = keys.len();
-    let mut i = 0;
-    while i < n / 2 {
-        let j = n - 1 - i;
-        let key = keys[i];
-        keys[i] = keys[j];
-        keys[j] = key;
-        i += 1;
+// The first n rows, or all where there are fewer.
+pub fn first(n: usize, keys: &[u64]) -> &[u64] {
+    if keys.len() < n {
+        return keys;
     }
+    &keys[..n]
 }

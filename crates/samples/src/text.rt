@@ -1,5 +1,4 @@
 // The words that the programs print.
-use crate::answer;
 use crate::table::Sample;
 use libc::STDOUT_FILENO;
 use refusals::Refusal;
@@ -21,8 +20,8 @@ pub fn hex(tag: &[u8], v: u64) {
 }
 
 pub fn refused(r: Refusal) {
-    number(b"refused=", answer::number(r));
-    number(b".", answer::named(r));
+    number(b"refused=", r.number());
+    number(b".", r.named());
 }
 
 fn name(sample: Sample) {

@@ -16,7 +16,8 @@ use Rattle.words.proofs.Items.{item-inj}
 use Rattle.tables.specs.Tables.{keyAt, Table}
 use Rattle.splits.specs.Splits.{len, left, right, root, parentLen, handleLen, handleItem, handleSplit}
 use Rattle.basics.proofs.Bools.{by-test}
-use Rattle.splits.proofs.Rows.{share-down, between, len-lt, len-iff, neighbours, rows-own, left-lt, right-gt, one-split}
+use Rattle.splits.proofs.Rows.{share-down, between, len-lt, len-iff, neighbours, rows-own, left-lt, right-gt}
+use Rattle.splits.proofs.Rows.{one-split}
 use Rattle.splits.proofs.Parents.{parent-left, parent-right, parent-shorter, root-pos, root-lt}
 
 module _ (T : List ℕ) (t : Table T) where
@@ -28,7 +29,9 @@ module _ (T : List ℕ) (t : Table T) where
         fattest-of (parentLen T m) (len T m) (parent-shorter T t m pos small other) (omega arith)
 
     -- only the split's rows have its handle
-    pub handle-rows : (i : ℕ) → i < length T → firstBits (handleLen T m) (keyAt T i) ≡ firstBits (handleLen T m) (keyAt T m) → (left T m ≤ i) × (i < right T m)
+    pub handle-rows : (i : ℕ) → i < length T
+        → firstBits (handleLen T m) (keyAt T i) ≡ firstBits (handleLen T m) (keyAt T m)
+        → (left T m ≤ i) × (i < right T m)
     handle-rows i s e =
         let f = handleLen T m in
         let a = left T m in
@@ -55,7 +58,8 @@ module _ (T : List ℕ) (t : Table T) where
     handle-by f F = rw (fattest-one F handle-fattest)
 
   -- J8: the handles of two splits differ
-  pub handle-inj : (m k : ℕ) → 0 < m → m < length T → (m ≡ root T → ⊥) → 0 < k → k < length T → (k ≡ root T → ⊥) → handleItem T m ≡ handleItem T k → m ≡ k
+  pub handle-inj : (m k : ℕ) → 0 < m → m < length T → (m ≡ root T → ⊥) → 0 < k → k < length T
+      → (k ≡ root T → ⊥) → handleItem T m ≡ handleItem T k → m ≡ k
   unfolding handleItem
   handle-inj m k mp ms mo kp ks ko e =
       let f = handleLen T m in
@@ -84,11 +88,15 @@ module _ (T : List ℕ) (t : Table T) where
       sym (one-split T t m k mp ms (omega arith) (k₁ .1) longer)
 
 -- map 3's items stand for the splits other than the root, each for another
-split-cases : (T : List ℕ) (i : ℕ) → ((i + 1 < root T) × (handleSplit T i ≡ i + 1)) ⊎ ((root T ≤ i + 1) × (handleSplit T i ≡ i + 2))
+split-cases : (T : List ℕ) (i : ℕ)
+    → ((i + 1 < root T) × (handleSplit T i ≡ i + 1)) ⊎ ((root T ≤ i + 1) × (handleSplit T i ≡ i + 2))
 unfolding handleSplit
-split-cases T i = by-test (ltb (i + 1) (root T)) (λ e. inl (ltb-true (i + 1) (root T) e, rw e)) (λ e. inr (ltb-false (i + 1) (root T) e, rw e))
+split-cases T i =
+    by-test (ltb (i + 1) (root T)) (λ e. inl (ltb-true (i + 1) (root T) e, rw e))
+    (λ e. inr (ltb-false (i + 1) (root T) e, rw e))
 
-pub split-ok : (T : List ℕ) (i : ℕ) → i + 2 < length T → (0 < handleSplit T i) × (handleSplit T i < length T) × (handleSplit T i ≡ root T → ⊥)
+pub split-ok : (T : List ℕ) (i : ℕ) → i + 2 < length T
+    → (0 < handleSplit T i) × (handleSplit T i < length T) × (handleSplit T i ≡ root T → ⊥)
 split-ok T i h =
     ⊎-elim (λ p. (omega (arith, p .1), omega (arith, p .1), λ e. omega (arith, p .0, p .1)))
     (λ p. (omega (arith, p .1), omega (arith, p .1), λ e. omega (arith, p .0, p .1))) (split-cases T i)
@@ -96,9 +104,11 @@ split-ok T i h =
 pub split-inj : (T : List ℕ) (i j : ℕ) → handleSplit T i ≡ handleSplit T j → i ≡ j
 split-inj T i j e =
     ⊎-elim (λ p. ⊎-elim (λ q. omega (arith, p .1, q .1)) (λ q. omega (arith, p .0, p .1, q .0, q .1)) (split-cases T j))
-    (λ p. ⊎-elim (λ q. omega (arith, p .0, p .1, q .0, q .1)) (λ q. omega (arith, p .1, q .1)) (split-cases T j)) (split-cases T i)
+    (λ p. ⊎-elim (λ q. omega (arith, p .0, p .1, q .0, q .1)) (λ q. omega (arith, p .1, q .1)) (split-cases T j))
+    (split-cases T i)
 
-pub split-onto : (T : List ℕ) (m : ℕ) → 0 < m → m < length T → (m ≡ root T → ⊥) → (i : ℕ) × (i + 2 < length T) × (handleSplit T i ≡ m)
+pub split-onto : (T : List ℕ) (m : ℕ) → 0 < m → m < length T → (m ≡ root T → ⊥)
+    → (i : ℕ) × (i + 2 < length T) × (handleSplit T i ≡ m)
 split-onto T m pos small other =
     let two : 2 ≤ length T = omega arith in
     let rp : 0 < root T = root-pos T two in
@@ -117,7 +127,8 @@ items-differ T t i j hi hj e =
     split-inj T i j (handle-inj T t (handleSplit T i) (handleSplit T j) (p .0) (p .1) (p .2) (q .0) (q .1) (q .2) e)
 
 -- a map that gives each item its split leads each handle to its split
-pub handles-by-items : (T : List ℕ) (lookUp : ℕ → ℕ) → ((i : ℕ) → i + 2 < length T → lookUp (handleItem T (handleSplit T i)) ≡ handleSplit T i)
+pub handles-by-items : (T : List ℕ) (lookUp : ℕ → ℕ)
+    → ((i : ℕ) → i + 2 < length T → lookUp (handleItem T (handleSplit T i)) ≡ handleSplit T i)
     → (m : ℕ) → 0 < m → m < length T → (m ≡ root T → ⊥) → lookUp (handleItem T m) ≡ m
 handles-by-items T lookUp items m pos small other =
     let s = split-onto T m pos small other in

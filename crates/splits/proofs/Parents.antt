@@ -13,6 +13,7 @@ use Rattle.words.specs.Keys.{firstBits}
 use Rattle.words.proofs.Sharing.{shared-le}
 use Rattle.tables.specs.Tables.{keyAt, Table}
 use Rattle.splits.specs.Splits.{len, left, right, smallerOf, rootTo, root, parentLen, leftEntry, rightEntry}
+use Rattle.splits.specs.Vouched.{RootLeast, RootOnly}
 use Rattle.basics.proofs.Bools.{by-test}
 use Rattle.splits.proofs.Rows.{left-lt, right-gt, right-le, rows-own, left-len, right-len, one-split}
 
@@ -25,9 +26,11 @@ record Smallest (T : List ℕ) (M r : ℕ) : Type 0 where
 root-to : (T : List ℕ) (M : ℕ) → Smallest T M (rootTo T M)
 unfolding rootTo
 root-to T zero = record { some = λ h. h; within = zero-le; least = λ m h l. absurd (omega arith) }
-root-to T (suc M) = step (rootTo T M) (root-to T M) (eqb (rootTo T M) 0) refl (ltb (len T (suc M)) (len T (rootTo T M))) refl
+root-to T (suc M) =
+    step (rootTo T M) (root-to T M) (eqb (rootTo T M) 0) refl (ltb (len T (suc M)) (len T (rootTo T M))) refl
   where
-    step : (r : ℕ) → Smallest T M r → (a : Bool) → eqb r 0 ≡ a → (b : Bool) → ltb (len T (suc M)) (len T r) ≡ b
+    step : (r : ℕ) → Smallest T M r → (a : Bool) → eqb r 0 ≡ a → (b : Bool)
+        → ltb (len T (suc M)) (len T r) ≡ b
         → Smallest T (suc M) (cond a (suc M) (cond b (suc M) r))
     step r S true e b e′ =
         let none : r ≡ 0 = eqb-true r 0 e in
@@ -66,7 +69,7 @@ root-pos T h = root-to T (length T - 1) .some (omega arith)
 pub root-lt : (T : List ℕ) → 2 ≤ length T → root T < length T
 root-lt T h = omega (arith, root-to T (length T - 1) .within)
 
-pub root-least : (T : List ℕ) (m : ℕ) → 0 < m → m < length T → len T (root T) ≤ len T m
+pub root-least : RootLeast
 root-least T m h l = root-to T (length T - 1) .least m h (omega arith)
 
 -- the root by one more split
@@ -116,10 +119,12 @@ pub parent-right : (T : List ℕ) (m : ℕ) → right T m < length T → len T (
 unfolding parentLen
 parent-right T m h = rw (lt-ltb (right T m) (length T) h) (omega arith)
 
-pub parent-lt : (T : List ℕ) (m f : ℕ) → 0 < f → (0 < left T m → len T (left T m) < f) → (right T m < length T → len T (right T m) < f) → parentLen T m < f
+pub parent-lt : (T : List ℕ) (m f : ℕ) → 0 < f → (0 < left T m → len T (left T m) < f)
+    → (right T m < length T → len T (right T m) < f) → parentLen T m < f
 unfolding parentLen
 parent-lt T m f h p q =
-    let below : (b : Bool) (k : ℕ) → (b ≡ true → k < f) → cond b k 0 < f = λ b k g. by-test b (λ e. rw e (g e)) (λ e. rw e h) in
+    let below : (b : Bool) (k : ℕ) → (b ≡ true → k < f) → cond b k 0 < f =
+    λ b k g. by-test b (λ e. rw e (g e)) (λ e. rw e h) in
     omega (
       arith,
       below (ltb 0 (left T m)) (len T (left T m)) (λ e. p (ltb-true 0 (left T m) e)),
@@ -128,44 +133,53 @@ parent-lt T m f h p q =
 
 module _ (T : List ℕ) (t : Table T) where
   -- a split with as short a string as any has all rows
-  pub all-rows : (m : ℕ) → 0 < m → m < length T → ((k : ℕ) → 0 < k → k < length T → len T m ≤ len T k) → (left T m ≡ 0) × (right T m ≡ length T)
+  pub all-rows : (m : ℕ) → 0 < m → m < length T
+      → ((k : ℕ) → 0 < k → k < length T → len T m ≤ len T k)
+      → (left T m ≡ 0) × (right T m ≡ length T)
   all-rows m pos small least =
       let lt = left-lt T t m pos small in
       let gt = right-gt T t m pos small in
       let le = right-le T t m pos small in
-      let none : ¬ (0 < left T m) = λ g. (omega (arith, left-len T t m pos small g, least (left T m) g (omega arith))) in
-      let none′ : ¬ (right T m < length T) = λ g. (omega (arith, right-len T t m pos small g, least (right T m) (omega arith) g)) in
+      let none : ¬ (0 < left T m) =
+      λ g. (omega (arith, left-len T t m pos small g, least (left T m) g (omega arith))) in
+      let none′ : ¬ (right T m < length T) =
+      λ g. (omega (arith, right-len T t m pos small g, least (right T m) (omega arith) g)) in
       omega arith
 
   -- so all rows share the root's string
-  pub root-all : (i : ℕ) → i < length T → 2 ≤ length T → firstBits (len T (root T)) (keyAt T i) ≡ firstBits (len T (root T)) (keyAt T (root T))
+  pub root-all : (i : ℕ) → i < length T → 2 ≤ length T
+      → firstBits (len T (root T)) (keyAt T i) ≡ firstBits (len T (root T)) (keyAt T (root T))
   root-all i s h =
       let p = root-pos T h in
       let q = root-lt T h in
       let all = all-rows (root T) p q (root-least T) in
       rows-own T t (root T) p q i (omega arith) (omega arith)
 
-  -- and the root is the only split with the smallest len
-  pub root-only : (m : ℕ) → 0 < m → m < length T → len T m ≤ len T (root T) → m ≡ root T
-  root-only m pos small h =
-      let two : 2 ≤ length T = omega arith in
-      let rp = root-pos T two in
-      let rs = root-lt T two in
-      let all = all-rows m pos small (λ k p s. omega (arith, root-least T k p s)) in
-      sym (one-split T t m (root T) pos small (omega arith) (omega arith) (root-least T m pos small))
+-- and the root is the only split with the smallest len
+pub root-only : RootOnly
+root-only T t m pos small h =
+    let two : 2 ≤ length T = omega arith in
+    let rp = root-pos T two in
+    let rs = root-lt T two in
+    let all = all-rows T t m pos small (λ k p s. omega (arith, root-least T k p s)) in
+    sym (one-split T t m (root T) pos small (omega arith) (omega arith) (root-least T m pos small))
 
+module _ (T : List ℕ) (t : Table T) where
   -- the parent of a split other than the root has a shorter string
   pub parent-shorter : (m : ℕ) → 0 < m → m < length T → (m ≡ root T → ⊥) → parentLen T m < len T m
   parent-shorter m pos small other =
-      let some : ¬ (len T m ≤ len T (root T)) = λ g. other (root-only m pos small g) in
+      let some : ¬ (len T m ≤ len T (root T)) = λ g. other (root-only T t m pos small g) in
       parent-lt T m (len T m) (omega arith) (left-len T t m pos small) (right-len T t m pos small)
 
-  -- the first of m's rows stands before m, so it is one of the table's, and the row after the last stands after m, so it isn't row 0
+  -- the first of m's rows stands before m, so it is one of the table's, and the row after the last stands after m, so
+  -- it isn't row 0
   pub ends-apart : (m : ℕ) → 0 < m → m < length T → (leftEntry T m < length T) × (0 < rightEntry T m)
-  ends-apart m pos small = rw (left-split T m pos, right-split T m pos) (omega (arith, left-lt T t m pos small, right-gt T t m pos small))
+  ends-apart m pos small =
+      rw (left-split T m pos, right-split T m pos) (omega (arith, left-lt T t m pos small, right-gt T t m pos small))
 
 -- the parent's length by the entries of the stores
 pub parent-by : (T : List ℕ) (m : ℕ) → 0 < m
-    → max (cond (ltb 0 (leftEntry T m)) (len T (leftEntry T m)) 0) (cond (ltb (rightEntry T m) (length T)) (len T (rightEntry T m)) 0) ≡ parentLen T m
+    → max (cond (ltb 0 (leftEntry T m)) (len T (leftEntry T m)) 0)
+    (cond (ltb (rightEntry T m) (length T)) (len T (rightEntry T m)) 0) ≡ parentLen T m
 unfolding parentLen
 parent-by T m pos = rw (left-split T m pos, right-split T m pos)

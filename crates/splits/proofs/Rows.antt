@@ -1,11 +1,11 @@
--- The rows of a rising table: where a test that passes up to some row turns, and what the rows of a split share. Assumes nothing.
+-- The rows of a rising table: where a test that passes up to some row turns, and what the rows of a split share.
+-- Assumes nothing.
 use mathlib.Core.Path.{_≡_, refl, sym, _∙_}
 use mathlib.Core.Bool.{Bool, true, false, cond}
 use mathlib.Core.List.{List, [], _∷_}
 use mathlib.Core.Logic.{_↔_}
 use Prim.Native.Nat.{ℕ, zero, suc, _+_, _-_, _*_, _≤_, _<_, zero-le, suc-le-suc}
 use native.Mathlib.Nat.{le-refl, le-of-lt, le-of-suc-le-suc}
-use native.Mathlib.Decide.{le-ind}
 use native.Mathlib.Omega.{arith}
 use borrow.Author.Tests.{ltb-true, ltb-false, leb-true, leb-false, lt-ltb, le-leb}
 use lib.Dec.{leb, ltb}
@@ -14,7 +14,9 @@ use lib.Pow.{shr-shr, shr-mono}
 use Rattle.words.specs.Keys.{firstBits, bitAt}
 use Rattle.words.proofs.Sharing.{halve, shared-iff, shared-lt, parting-bits}
 use Rattle.tables.specs.Tables.{keyAt, Table, count, smaller}
+use Rattle.tables.proofs.Rising.{keys-rise, keys-above}
 use Rattle.splits.specs.Splits.{len, left, right}
+use Rattle.splits.specs.Vouched.{RowsAre}
 use Rattle.basics.proofs.Bools.{not-both}
 
 -- a key's first l + 1 bits are its first l and bit l
@@ -26,14 +28,17 @@ next-bit l x h =
     rw (e, e′) (omega (arith, halve x k))
 
 -- keys that share bits share fewer
-pub share-down : (j l a b : ℕ) → j ≤ l → l ≤ 64 → firstBits l a ≡ firstBits l b → firstBits j a ≡ firstBits j b
+pub share-down : (j l a b : ℕ) → j ≤ l → l ≤ 64 → firstBits l a ≡ firstBits l b
+    → firstBits j a ≡ firstBits j b
 share-down j l a b h hl e =
     let k : 64 - j ≡ (64 - l) + (l - j) = omega arith in
     rw (k, ← shr-shr a (64 - l) (l - j), ← shr-shr b (64 - l) (l - j), e)
 
 -- the key with the smaller first bits is smaller
 pub less-by : (l a b : ℕ) → firstBits l a < firstBits l b → a < b
-less-by l a b h = let no : ¬ (b ≤ a) = λ g. (let m : firstBits l b ≤ firstBits l a = shr-mono (64 - l) g in omega arith) in omega arith
+less-by l a b h =
+    let no : ¬ (b ≤ a) = λ g. (let m : firstBits l b ≤ firstBits l a = shr-mono (64 - l) g in omega arith) in
+    omega arith
 
 -- the test passes at the rows below c, and at no other
 pub record Edge (p : ℕ → Bool) (T : List ℕ) (c : ℕ) : Type 0 where
@@ -42,12 +47,15 @@ pub record Edge (p : ℕ → Bool) (T : List ℕ) (c : ℕ) : Type 0 where
   pub most : c ≤ length T
 
 -- a test that passes at no row after one at which it fails has an edge, and the edge is the count
-pub edge : (p : ℕ → Bool) (T : List ℕ) → ((i : ℕ) → suc i < length T → p (keyAt T (suc i)) ≡ true → p (keyAt T i) ≡ true) → Edge p T (count p T)
+pub edge : (p : ℕ → Bool) (T : List ℕ)
+    → ((i : ℕ) → suc i < length T → p (keyAt T (suc i)) ≡ true → p (keyAt T i) ≡ true)
+    → Edge p T (count p T)
 unfolding count
 edge p [] down = record { low = λ i h. absurd (omega arith); high = λ i h l. absurd (omega arith); most = zero-le }
 edge p (x ∷ xs) down = step (p x) refl (edge p xs (λ i h. down (suc i) (suc-le-suc h)))
   where
-    step : (b : Bool) → p x ≡ b → Edge p xs (count p xs) → Edge p (x ∷ xs) (cond b (suc (count p xs)) (count p xs))
+    step : (b : Bool) → p x ≡ b → Edge p xs (count p xs)
+        → Edge p (x ∷ xs) (cond b (suc (count p xs)) (count p xs))
     step true e E = record { low = low; high = high; most = suc-le-suc (E .most) }
       where
         low : (i : ℕ) → i < suc (count p xs) → p (keyAt (x ∷ xs) i) ≡ true
@@ -69,38 +77,32 @@ edge p (x ∷ xs) down = step (p x) refl (edge p xs (λ i h. down (suc i) (suc-l
         high (suc i) h l = E .high i (omega (arith, none)) (le-of-suc-le-suc l)
 
 module _ (T : List ℕ) (t : Table T) where
-  -- later rows have larger keys
-  rising : (i j : ℕ) → i ≤ j → j < length T → keyAt T i ≤ keyAt T j
-  rising i j h = le-ind (λ (k : ℕ). k < length T → keyAt T i ≤ keyAt T k) (λ l. le-refl _) (λ k g ih l. omega (arith, ih (omega arith), t .rises k l)) j h
-
-  pub row-lt : (i j : ℕ) → i < j → j < length T → keyAt T i < keyAt T j
-  row-lt i j h l = omega (arith, t .rises i (omega arith), rising (suc i) j h l)
-
-  pub row-le : (i j : ℕ) → i ≤ j → j < length T → keyAt T i ≤ keyAt T j
-  row-le i j h l = rising i j h l
-
   pub bits-le : (l i j : ℕ) → i ≤ j → j < length T → firstBits l (keyAt T i) ≤ firstBits l (keyAt T j)
-  bits-le l i j h g = shr-mono (64 - l) (rising i j h g)
+  bits-le l i j h g = shr-mono (64 - l) (keys-rise T t i j h g)
 
   -- rows between rows that share bits share them
-  pub between : (l i j k : ℕ) → i ≤ j → j ≤ k → k < length T → firstBits l (keyAt T i) ≡ firstBits l (keyAt T k)
+  pub between : (l i j k : ℕ) → i ≤ j → j ≤ k → k < length T
+      → firstBits l (keyAt T i) ≡ firstBits l (keyAt T k)
       → firstBits l (keyAt T j) ≡ firstBits l (keyAt T k)
   between l i j k h g s e = omega (arith, bits-le l i j h (omega arith), bits-le l j k g s)
 
   -- how many keys are smaller than x: the row before which x stands
   pub smaller-edge : (x : ℕ) → Edge (λ k. ltb k x) T (smaller T x)
-  smaller-edge x = edge (λ k. ltb k x) T (λ i h e. lt-ltb (keyAt T i) x (omega (arith, ltb-true (keyAt T (suc i)) x e, t .rises i h)))
+  smaller-edge x =
+      edge (λ k. ltb k x) T
+      (λ i h e. lt-ltb (keyAt T i) x (omega (arith, ltb-true (keyAt T (suc i)) x e, t .rises i h)))
 
   -- the split m
   module _ (m : ℕ) (pos : 0 < m) (small : m < length T) where
     prior : keyAt T (m - 1) < keyAt T m
-    prior = row-lt (m - 1) m (omega arith) small
+    prior = keys-above T t (m - 1) m (omega arith) small
 
     pub len-lt : len T m < 64
     len-lt = shared-lt (keyAt T (m - 1)) (keyAt T m) (t .fits (m - 1) (omega arith)) (t .fits m small) prior
 
     -- rows m - 1 and m share the first L bits exactly if L is at most len
-    pub len-iff : (L : ℕ) → L ≤ 64 → (L ≤ len T m) ↔ (firstBits L (keyAt T (m - 1)) ≡ firstBits L (keyAt T m))
+    pub len-iff : (L : ℕ) → L ≤ 64
+        → (L ≤ len T m) ↔ (firstBits L (keyAt T (m - 1)) ≡ firstBits L (keyAt T m))
     len-iff L h = shared-iff (keyAt T (m - 1)) (keyAt T m) (t .fits (m - 1) (omega arith)) (t .fits m small) L h
 
     -- and part at bit len
@@ -116,12 +118,16 @@ module _ (T : List ℕ) (t : Table T) where
     left-edge : Edge (λ k. ltb (firstBits (len T m) k) (own m)) T (left T m)
     unfolding left
     left-edge = edge (λ k. ltb (firstBits (len T m) k) (own m)) T
-        (λ i h e. lt-ltb (own i) (own m) (omega (arith, ltb-true (own (suc i)) (own m) e, bits-le (len T m) i (suc i) (omega arith) h)))
+        (λ i h e.
+        let up = bits-le (len T m) i (suc i) (omega arith) h in
+        lt-ltb (own i) (own m) (omega (arith, ltb-true (own (suc i)) (own m) e)))
 
     right-edge : Edge (λ k. leb (firstBits (len T m) k) (own m)) T (right T m)
     unfolding right
     right-edge = edge (λ k. leb (firstBits (len T m) k) (own m)) T
-        (λ i h e. le-leb (own i) (own m) (omega (arith, leb-true (own (suc i)) (own m) e, bits-le (len T m) i (suc i) (omega arith) h)))
+        (λ i h e.
+        let up = bits-le (len T m) i (suc i) (omega arith) h in
+        le-leb (own i) (own m) (omega (arith, leb-true (own (suc i)) (own m) e)))
 
     -- rows below left have smaller first bits, rows from right on larger ones, those between the split's own
     pub rows-below : (i : ℕ) → i < left T m → own i < own m
@@ -133,20 +139,13 @@ module _ (T : List ℕ) (t : Table T) where
     pub rows-own : (i : ℕ) → left T m ≤ i → i < right T m → own i ≡ own m
     rows-own i h l =
         let fit : right T m ≤ length T = right-edge .most in
-        omega (arith, leb-true (own i) (own m) (right-edge .low i l), ltb-false (own i) (own m) (left-edge .high i h (omega arith)))
-
-    -- so the rows with the split's string are those from left up to right
-    pub rows-are : (i : ℕ) → i < length T → ((left T m ≤ i) × (i < right T m)) ↔ (own i ≡ own m)
-    rows-are i s = (λ p. rows-own i (p .0) (p .1), λ e. (low e, high e))
-      where
-        low : own i ≡ own m → left T m ≤ i
-        low e = let no : ¬ (i < left T m) = λ g. (omega (arith, rows-below i g)) in omega arith
-
-        high : own i ≡ own m → i < right T m
-        high e = let no : ¬ (right T m ≤ i) = λ g. (omega (arith, rows-above i g s)) in omega arith
+        let not-above = leb-true (own i) (own m) (right-edge .low i l) in
+        omega (arith, ltb-false (own i) (own m) (left-edge .high i h (omega arith)))
 
     pub left-lt : left T m < m
-    left-lt = let no : ¬ (m ≤ left T m) = λ h. (omega (arith, rows-below (m - 1) (omega arith), neighbours)) in omega arith
+    left-lt =
+        let no : ¬ (m ≤ left T m) = λ h. (omega (arith, rows-below (m - 1) (omega arith), neighbours)) in
+        omega arith
 
     pub right-gt : m < right T m
     right-gt = let no : ¬ (right T m ≤ m) = λ h. (omega (arith, rows-above m h small)) in omega arith
@@ -159,7 +158,8 @@ module _ (T : List ℕ) (t : Table T) where
     low-side i h g =
         let same = rows-own i h (omega (arith, right-gt)) in
         let up = bits-le (suc (len T m)) i (m - 1) (omega arith) (omega arith) in
-        omega (arith, next-bit (len T m) (keyAt T i) len-lt, next-bit (len T m) (keyAt T (m - 1)) len-lt, neighbours, len-bits .0)
+        let last = next-bit (len T m) (keyAt T (m - 1)) len-lt in
+        omega (arith, next-bit (len T m) (keyAt T i) len-lt, neighbours, len-bits .0)
 
     pub high-side : (i : ℕ) → m ≤ i → i < right T m → firstBits (suc (len T m)) (keyAt T i) ≡ 2 * own m + 1
     high-side i h g =
@@ -175,7 +175,8 @@ module _ (T : List ℕ) (t : Table T) where
       let a-lt : a < m = left-lt m pos small in
       let below = rows-below m pos small (a - 1) (omega arith) in
       let own = rows-own m pos small a (le-refl a) (omega (arith, right-gt m pos small)) in
-      let no : ¬ (l ≤ len T a) = λ g. (omega (arith, len-iff a h (omega arith) l (le-of-lt (len-lt m pos small)) .0 g)) in
+      let no : ¬ (l ≤ len T a) =
+      λ g. (omega (arith, len-iff a h (omega arith) l (le-of-lt (len-lt m pos small)) .0 g)) in
       omega arith
 
   pub right-len : (m : ℕ) → 0 < m → m < length T → right T m < length T → len T (right T m) < len T m
@@ -185,16 +186,30 @@ module _ (T : List ℕ) (t : Table T) where
       let b-gt : m < b = right-gt m pos small in
       let above = rows-above m pos small b (le-refl b) h in
       let own = rows-own m pos small (b - 1) (omega (arith, left-lt m pos small)) (omega arith) in
-      let no : ¬ (l ≤ len T b) = λ g. (omega (arith, len-iff b (omega arith) h l (le-of-lt (len-lt m pos small)) .0 g)) in
+      let no : ¬ (l ≤ len T b) =
+      λ g. (omega (arith, len-iff b (omega arith) h l (le-of-lt (len-lt m pos small)) .0 g)) in
       omega arith
 
   -- S3: a split with its string as long stands at no other of a split's rows
-  pub one-split : (m k : ℕ) → 0 < m → m < length T → left T m < k → k < right T m → len T k ≤ len T m → k ≡ m
+  pub one-split : (m k : ℕ) → 0 < m → m < length T → left T m < k → k < right T m → len T k ≤ len T m
+      → k ≡ m
   one-split m k pos small h g le =
       let p : 0 < k = omega arith in
       let s : k < length T = omega (arith, right-le m pos small) in
       let longer : firstBits (suc (len T m)) (keyAt T (k - 1)) ≡ firstBits (suc (len T m)) (keyAt T k) → ⊥ =
       λ e. (omega (arith, len-iff k p s (suc (len T m)) (len-lt m pos small) .1 e)) in
-      let not-above : ¬ (m < k) = λ l. longer (high-side m pos small (k - 1) (omega arith) (omega arith) ∙ sym (high-side m pos small k (omega arith) g)) in
-      let not-below : ¬ (k < m) = λ l. longer (low-side m pos small (k - 1) (omega arith) (omega arith) ∙ sym (low-side m pos small k (omega arith) l)) in
+      let not-above : ¬ (m < k) =
+      λ l. longer (high-side m pos small (k - 1) (omega arith) (omega arith) ∙ sym (high-side m pos small k (omega arith) g)) in
+      let not-below : ¬ (k < m) =
+      λ l. longer (low-side m pos small (k - 1) (omega arith) (omega arith) ∙ sym (low-side m pos small k (omega arith) l)) in
       omega arith
+
+-- so the rows with the split's string are those from left up to right
+pub rows-are : RowsAre
+rows-are T t m pos small i s = (
+  λ p. rows-own T t m pos small i (p .0) (p .1),
+  λ e. (
+      let low : ¬ (i < left T m) = λ g. (omega (arith, rows-below T t m pos small i g)) in
+      let high : ¬ (right T m ≤ i) = λ g. (omega (arith, rows-above T t m pos small i g s)) in
+      omega arith),
+)

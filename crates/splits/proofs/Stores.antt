@@ -24,14 +24,16 @@ module _ (entry : ℕ → ℕ) (a b : List ℕ) (m v : ℕ) (fits : m < length b
 
   pub wrote-up : (lo : ℕ) → lo ≤ m → Wrote lo m entry a b → Wrote lo (m + 1) entry a (set b m v)
   wrote-up lo le W = record {
-    entries = λ i h l. elim (ℕ-discrete i m) [ yes is ↦ here i is | no ne ↦ other i ne ∙ W .entries i h (omega arith) ];
+    entries =
+        λ i h l. elim (ℕ-discrete i m) [ yes is ↦ here i is | no ne ↦ other i ne ∙ W .entries i h (omega arith) ];
     below = λ i h. other i (λ is. omega arith) ∙ W .below i h;
     beyond = λ i h. other i (λ is. omega arith) ∙ W .beyond i (omega arith);
   }
 
   pub wrote-down : (hi : ℕ) → m < hi → Wrote (m + 1) hi entry a b → Wrote m hi entry a (set b m v)
   wrote-down hi le W = record {
-    entries = λ i h l. elim (ℕ-discrete i m) [ yes is ↦ here i is | no ne ↦ other i ne ∙ W .entries i (omega arith) l ];
+    entries =
+        λ i h l. elim (ℕ-discrete i m) [ yes is ↦ here i is | no ne ↦ other i ne ∙ W .entries i (omega arith) l ];
     below = λ i h. other i (λ is. omega arith) ∙ W .below i (omega arith);
     beyond = λ i h. other i (λ is. omega arith) ∙ W .beyond i h;
   }
@@ -42,7 +44,9 @@ module _ (n : ℕ) (entry : ℕ → ℕ) (old : List ℕ) where
   entered-length room = simp (length-append, length-drop, length-listed) (omega arith)
 
   pub entered-at : (i : ℕ) → i < n → getD (listed n entry ++ drop n old) i 0 ≡ entry i
-  entered-at i h = List·getD-append (listed n entry) (drop n old) 0 i (omega (arith, length-listed n entry)) ∙ listed-at n entry i h
+  entered-at i h =
+      List·getD-append (listed n entry) (drop n old) 0 i (omega (arith, length-listed n entry))
+      ∙ listed-at n entry i h
 
   pub entered-past : (i : ℕ) → n ≤ i → getD (listed n entry ++ drop n old) i 0 ≡ getD old i 0
   entered-past i h =
@@ -51,8 +55,10 @@ module _ (n : ℕ) (entry : ℕ → ℕ) (old : List ℕ) where
       rw back at (e ∙ getD-drop n old (i - n) 0)
 
 -- a store written from 0 up to n is that
-pub wrote-whole : (n : ℕ) (entry : ℕ → ℕ) (a b : List ℕ) → n ≤ length a → length b ≡ length a → Wrote 0 n entry a b → b ≡ listed n entry ++ drop n a
-wrote-whole n entry a b room same W = ext-getD 0 b (listed n entry ++ drop n a) (same ∙ sym (entered-length n entry a room)) each
+pub wrote-whole : (n : ℕ) (entry : ℕ → ℕ) (a b : List ℕ) → n ≤ length a → length b ≡ length a
+    → Wrote 0 n entry a b → b ≡ listed n entry ++ drop n a
+wrote-whole n entry a b room same W =
+    ext-getD 0 b (listed n entry ++ drop n a) (same ∙ sym (entered-length n entry a room)) each
   where
     each : (i : ℕ) → i < length b → getD b i 0 ≡ getD (listed n entry ++ drop n a) i 0
     each i h = elim (decLe n i) [
@@ -61,7 +67,8 @@ wrote-whole n entry a b room same W = ext-getD 0 b (listed n entry ++ drop n a) 
     ]
 
 -- the entries of the splits, and entry 0 after them; n and N count the same rows
-pub wrote-first : (n N : ℕ) (entry : ℕ → ℕ) (a b : List ℕ) (v : ℕ) → n ≡ N → 0 < n → n ≤ length a → length b ≡ length a → v ≡ entry 0 → Wrote 1 n entry a b
+pub wrote-first : (n N : ℕ) (entry : ℕ → ℕ) (a b : List ℕ) (v : ℕ) → n ≡ N → 0 < n
+    → n ≤ length a → length b ≡ length a → v ≡ entry 0 → Wrote 1 n entry a b
     → set b 0 v ≡ listed N entry ++ drop N a
 wrote-first n N entry a b v count some room same first W =
     rw (← count) (wrote-whole n entry a (set b 0 v) room (length-set b 0 v ∙ same) (wrote-down entry a b 0 v (omega arith) first n some W))

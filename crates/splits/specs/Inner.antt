@@ -1,4 +1,5 @@
--- What only the contracts of inner functions need: a table whose delimiters are counted, and stores while they are written.
+-- What only the contracts of inner functions need: a table whose delimiters are counted, and stores while they are
+-- written.
 use mathlib.Core.Path.{_≡_}
 use mathlib.Core.Bool.{Bool, cond, _&&_}
 use mathlib.Core.List.{List}
@@ -17,7 +18,7 @@ pub record SplitOf (b : ℕ) (keys : List ℕ) (m : ℕ) : Type 0 where
   pub small : m < length (delimiters b keys)
 
 -- n counts the delimiters
-pub record Counted (b : ℕ) (keys : List ℕ) (n : ℕ) : Type 0 where
+pub record CountOf (b : ℕ) (keys : List ℕ) (n : ℕ) : Type 0 where
   pub bucketed : Bucketed b keys
   pub rows : n ≡ length (delimiters b keys)
 

@@ -1,5 +1,5 @@
--- Document 01, "Neighbour index": the splits of a rising list T of n keys. Split m, 1 ≤ m < n, is the trie's inner node between the rows
--- m - 1 and m; its string is the first len m bits of key m.
+-- Document 01, "Neighbour index": the splits of a rising list T of n keys. Split m, 1 ≤ m < n, is the trie's inner
+-- node between the rows m - 1 and m; its string is the first len m bits of key m.
 use mathlib.Core.Bool.{cond}
 use mathlib.Core.List.{List, _++_}
 use Prim.Native.Nat.{ℕ, zero, suc, _+_, _-_, max}
@@ -13,7 +13,8 @@ use Rattle.tables.specs.Tables.{keyAt, count, listed}
 abbrev pub len : List ℕ → ℕ → ℕ
 len T m = sharedBits (keyAt T (m - 1)) (keyAt T m)
 
--- the rows with the split's string go from left up to, not including, right: before them stand the keys whose first len bits are smaller
+-- the rows with the split's string go from left up to, not including, right: before them stand the keys whose first
+-- len bits are smaller
 unfoldable pub left : List ℕ → ℕ → ℕ
 left T m = count (λ k. ltb (firstBits (len T m) k) (firstBits (len T m) (keyAt T m))) T
 
@@ -36,7 +37,8 @@ root T = rootTo T (length T - 1)
 
 -- the parent's length q: the larger of len (left m) where left m > 0, and len (right m) where right m < n
 unfoldable pub parentLen : List ℕ → ℕ → ℕ
-parentLen T m = max (cond (ltb 0 (left T m)) (len T (left T m)) 0) (cond (ltb (right T m) (length T)) (len T (right T m)) 0)
+parentLen T m =
+    max (cond (ltb 0 (left T m)) (len T (left T m)) 0) (cond (ltb (right T m) (length T)) (len T (right T m)) 0)
 
 -- the length of the handle of a split other than the root: the 2-fattest f with q < f ≤ len m
 unfoldable pub handleLen : List ℕ → ℕ → ℕ
@@ -46,7 +48,8 @@ handleLen T m = fattestOf (parentLen T m) (len T m)
 unfoldable pub handleItem : List ℕ → ℕ → ℕ
 handleItem T m = prefixItem (keyAt T m) (handleLen T m)
 
--- the split that item i of map 3 stands for: the n - 2 items are the handles of the splits other than r, the root, in order
+-- the split that item i of map 3 stands for: the n - 2 items are the handles of the splits other than r, the root, in
+-- order
 abbrev pub splitBeside : ℕ → ℕ → ℕ
 splitBeside r i = cond (ltb (i + 1) r) (i + 1) (i + 2)
 

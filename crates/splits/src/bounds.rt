@@ -5,7 +5,7 @@ ghost use lib.ListN.{length};
 ghost use Rattle.tables.specs.Tables.{Table};
 ghost use Rattle.tables.specs.Delimiters.{delimiters, Bucketed};
 ghost use Rattle.splits.specs.Splits.{root, smallerOf, leftEntry, rightEntry, leftStore, rightStore};
-ghost use Rattle.splits.specs.Inner.{SplitOf, Counted, Rising, Holds, Roomy, goesOn, Measured, Wrote};
+ghost use Rattle.splits.specs.Inner.{SplitOf, CountOf, Rising, Holds, Roomy, goesOn, Measured, Wrote};
 use crate::split::entry_at;
 use crate::split::len_at;
 use tables::delimiter::delimiter_count;
@@ -16,8 +16,8 @@ struct Shortest {
     bits: u32,
 }
 
-// Whether row j, beside a later split whose string has l bits, is a split with l bits or more and so lies within the rows of that one.
-// A row before another is a split unless it is row 0.
+// Whether row j, beside a later split whose string has l bits, is a split with l bits or more and so lies within the
+// rows of that one. A row before another is a split unless it is row 0.
 fn goes_on_left(keys: &[u64], b: usize, j: usize, l: u32) -> bool
     requires { ⌜ Bucketed b (now keys) × (j < length (delimiters b (now keys))) ⌝ }
     ensures { λ r. ⌜ r ≡ goesOn (delimiters b (now (keys .entry))) j l ⌝ }
@@ -30,7 +30,7 @@ fn goes_on_left(keys: &[u64], b: usize, j: usize, l: u32) -> bool
 
 // The same of row j beside an earlier split. A row after another is a split unless it is beyond the last.
 fn goes_on_right(keys: &[u64], b: usize, n: usize, j: usize, l: u32) -> bool
-    requires { ⌜ Counted b (now keys) n × (0 < j) ⌝ }
+    requires { ⌜ CountOf b (now keys) n × (0 < j) ⌝ }
     ensures { λ r. ⌜ r ≡ goesOn (delimiters b (now (keys .entry))) j l ⌝ }
 {
     if j >= n {
@@ -54,7 +54,8 @@ fn jump_left(keys: &[u64], b: usize, left: &[u16], m: usize) -> usize
 
 // The row after the last of split m, by those of the splits after it.
 fn jump_right(keys: &[u64], b: usize, n: usize, right: &[u16], m: usize) -> usize
-    requires { ⌜ Rising b (now keys) m × Counted b (now keys) n × Holds (rightEntry (delimiters b (now keys))) (m + 1) n (now right) ⌝ }
+    requires { ⌜ Rising b (now keys) m × CountOf b (now keys) n
+        × Holds (rightEntry (delimiters b (now keys))) (m + 1) n (now right) ⌝ }
     ensures { λ r. ⌜ (r ≡ rightEntry (delimiters b (now (keys .entry))) m) × (r ≤ n) ⌝ }
 {
     let l = len_at(keys, b, m);
@@ -67,8 +68,10 @@ fn jump_right(keys: &[u64], b: usize, n: usize, right: &[u16], m: usize) -> usiz
 
 // The first rows of the splits, from the first split to the last.
 fn fill_left(keys: &[u64], b: usize, n: usize, left: &mut [u16])
-    requires { ⌜ Table (delimiters b (now keys)) × Counted b (now keys) n × (0 < n) × (n ≤ 32768) × (n ≤ length (now left)) ⌝ }
-    ensures { λ _. ⌜ Wrote 1 n (leftEntry (delimiters b (now (keys .entry)))) (now (left .entry)) (now (left .exit)) ⌝ }
+    requires { ⌜ Table (delimiters b (now keys)) × CountOf b (now keys) n
+        × (0 < n) × (n ≤ 32768) × (n ≤ length (now left)) ⌝ }
+    ensures { λ _. ⌜ Wrote 1 n (leftEntry (delimiters b (now (keys .entry))))
+        (now (left .entry)) (now (left .exit)) ⌝ }
 {
     let mut m = 1;
     while m < n {
@@ -80,8 +83,10 @@ fn fill_left(keys: &[u64], b: usize, n: usize, left: &mut [u16])
 
 // The rows after the last ones, from the last split to the first.
 fn fill_right(keys: &[u64], b: usize, n: usize, right: &mut [u16])
-    requires { ⌜ Table (delimiters b (now keys)) × Counted b (now keys) n × (0 < n) × (n ≤ 32768) × (n ≤ length (now right)) ⌝ }
-    ensures { λ _. ⌜ Wrote 1 n (rightEntry (delimiters b (now (keys .entry)))) (now (right .entry)) (now (right .exit)) ⌝ }
+    requires { ⌜ Table (delimiters b (now keys)) × CountOf b (now keys) n
+        × (0 < n) × (n ≤ 32768) × (n ≤ length (now right)) ⌝ }
+    ensures { λ _. ⌜ Wrote 1 n (rightEntry (delimiters b (now (keys .entry))))
+        (now (right .entry)) (now (right .exit)) ⌝ }
 {
     let mut m = n;
     while m > 1 {
@@ -94,7 +99,8 @@ fn fill_right(keys: &[u64], b: usize, n: usize, right: &mut [u16])
 // Of a split, 0 for none, and a later split m the one with the smaller len.
 fn smaller_of(keys: &[u64], b: usize, s: Shortest, m: usize) -> Shortest
     requires { ⌜ SplitOf b (now keys) m × Measured (delimiters b (now keys)) s × (s .split < m) ⌝ }
-    ensures { λ k. ⌜ (k .split ≡ smallerOf (delimiters b (now (keys .entry))) (s .split) m) × Measured (delimiters b (now (keys .entry))) k × (k .split ≤ m) ⌝ }
+    ensures { λ k. ⌜ (k .split ≡ smallerOf (delimiters b (now (keys .entry))) (s .split) m)
+        × Measured (delimiters b (now (keys .entry))) k × (k .split ≤ m) ⌝ }
 {
     let l = len_at(keys, b, m);
     if l < s.bits {
@@ -106,7 +112,8 @@ fn smaller_of(keys: &[u64], b: usize, s: Shortest, m: usize) -> Shortest
 // The root split: 0 for fewer than two keys.
 pub fn root_of(keys: &[u64], b: usize) -> usize
     requires { ⌜ Bucketed b (now keys) ⌝ }
-    ensures { λ r. ⌜ (r ≡ root (delimiters b (now (keys .entry)))) × (r ≤ length (delimiters b (now (keys .entry))) - 1) ⌝ }
+    ensures { λ r. ⌜ (r ≡ root (delimiters b (now (keys .entry))))
+        × (r ≤ length (delimiters b (now (keys .entry))) - 1) ⌝ }
 {
     let n = delimiter_count(keys, b);
     let mut s = Shortest { split: 0, bits: 65 };
@@ -121,8 +128,10 @@ pub fn root_of(keys: &[u64], b: usize) -> usize
 // Fills `left` and `right`: an entry for each row, and nothing beyond.
 pub fn build_bounds(keys: &[u64], b: usize, left: &mut [u16], right: &mut [u16])
     requires { ⌜ Roomy b (now keys) (now left) (now right) ⌝ }
-    ensures left_is { λ _. ⌜ now (left .exit) ≡ leftStore (delimiters b (now (keys .entry))) (now (left .entry)) ⌝ }
-    ensures right_is { λ _. ⌜ now (right .exit) ≡ rightStore (delimiters b (now (keys .entry))) (now (right .entry)) ⌝ }
+    ensures left_is { λ _. ⌜ now (left .exit)
+        ≡ leftStore (delimiters b (now (keys .entry))) (now (left .entry)) ⌝ }
+    ensures right_is { λ _. ⌜ now (right .exit)
+        ≡ rightStore (delimiters b (now (keys .entry))) (now (right .entry)) ⌝ }
 {
     let n = delimiter_count(keys, b);
     if n == 0 {

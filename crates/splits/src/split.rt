@@ -6,7 +6,7 @@ ghost use lib.Dec.{ltb};
 ghost use lib.ListN.{length, getD};
 ghost use Rattle.tables.specs.Delimiters.{delimiters, Bucketed};
 ghost use Rattle.splits.specs.Splits.{len, root, parentLen, handleItem, splitBeside};
-ghost use Rattle.splits.specs.Inner.{SplitOf, Counted, Bounded};
+ghost use Rattle.splits.specs.Inner.{SplitOf, CountOf, Bounded};
 use tables::delimiter::delimiter_at;
 use tables::delimiter::delimiter_count;
 use words::fattest::fattest;
@@ -53,8 +53,9 @@ fn len_of_first(keys: &[u64], b: usize, j: usize) -> u32
 
 // The length of split j, 0 where row j is beyond the last: what the row after a split's last says of its parent.
 fn len_of_end(keys: &[u64], b: usize, n: usize, j: usize) -> u32
-    requires { ⌜ Counted b (now keys) n × (0 < j) ⌝ }
-    ensures { λ r. ⌜ r ≡ cond (ltb j (length (delimiters b (now (keys .entry))))) (len (delimiters b (now (keys .entry))) j) 0 ⌝ }
+    requires { ⌜ CountOf b (now keys) n × (0 < j) ⌝ }
+    ensures { λ r. ⌜ r ≡ cond (ltb j (length (delimiters b (now (keys .entry)))))
+        (len (delimiters b (now (keys .entry))) j) 0 ⌝ }
 {
     if j >= n {
         return 0;

@@ -1,5 +1,5 @@
--- The laws of buckets: all keys of a bucket share the bits that its first and its last share, and no two buckets have the same prefix.
--- Assumes nothing.
+-- The laws of buckets: all keys of a bucket share the bits that its first and its last share, and no two buckets have
+-- the same prefix. Assumes nothing.
 use mathlib.Core.Path.{_≡_, refl, sym, ap}
 use mathlib.Core.Bool.{Bool, true, false, cond}
 use mathlib.Core.List.{List, [], _∷_}
@@ -30,7 +30,8 @@ part-slice (suc f) (suc t) [] = take-nil (suc t - suc f)
 part-slice (suc f) (suc t) (x ∷ xs) = rw (suc-sub-suc t f) (part-slice f t xs)
 
 -- of three keys in order the first two part at a bit, which is set in the third too if that shares the bits before it
-third : (a l c k : ℕ) → a / 2 ^ suc k ≡ l / 2 ^ suc k → a / 2 ^ k < l / 2 ^ k → l ≤ c → a / 2 ^ suc k ≡ c / 2 ^ suc k
+third : (a l c k : ℕ) → a / 2 ^ suc k ≡ l / 2 ^ suc k → a / 2 ^ k < l / 2 ^ k → l ≤ c
+    → a / 2 ^ suc k ≡ c / 2 ^ suc k
     → (c / 2 ^ k ≡ l / 2 ^ k) × (c / 2 ^ k % 2 ≡ 1)
 third a l c k p q h e = omega (arith, halve a k, halve l k, halve c k, shr-mono k h)
 
@@ -48,7 +49,8 @@ abbrev More : ℕ → List ℕ → ℕ → Type 0
 More b T i = suc (i * b) < bucketEnd (length T) b i
 
 module _ (T : List ℕ) (t : Table T) where
-  -- what a key at or below row f shares with all rows from f up to, not including, e is what it shares with the last of them
+  -- what a key at or below row f shares with all rows from f up to, not including, e is what it shares with the last
+  -- of them
   shared-with : (d x f e : ℕ) → x ≤ keyAt T f → f + suc d ≡ e → e ≤ length T
       → sharedWith x (slice f e T) ≡ sharedBits x (keyAt T (e - 1))
   unfolding sharedWith
@@ -64,7 +66,8 @@ module _ (T : List ℕ) (t : Table T) where
       rw (slice-cons f e T 0 (omega arith) l, rest) (omega arith)
 
   -- C1: two rows or more, from f up to, not including, e, share what the first and the last of them share
-  pub shared-by-all : (f e : ℕ) → suc f < e → e ≤ length T → sharedByAll (slice f e T) ≡ sharedBits (keyAt T f) (keyAt T (e - 1))
+  pub shared-by-all : (f e : ℕ) → suc f < e → e ≤ length T
+      → sharedByAll (slice f e T) ≡ sharedBits (keyAt T f) (keyAt T (e - 1))
   unfolding sharedByAll
   shared-by-all f e h l =
       let up : keyAt T f ≤ keyAt T (suc f) = keys-rise T t f (suc f) (omega arith) (omega arith) in
@@ -107,10 +110,13 @@ module _ (T : List ℕ) (t : Table T) where
     -- two keys or more are the same up to digit k, and part there
     parts : More b T i → (k : ℕ) → bucketLength b T i + suc k ≡ 64
         → (firstKey b T i / 2 ^ suc k ≡ lastKey b T i / 2 ^ suc k) × (firstKey b T i / 2 ^ k < lastKey b T i / 2 ^ k)
-    parts more k e = parting (firstKey b T i) (lastKey b T i) first-fits last-fits (first-below more) k (omega (arith, length-more more))
+    parts more k e =
+        parting (firstKey b T i) (lastKey b T i) first-fits last-fits (first-below more) k
+        (omega (arith, length-more more))
 
     -- every row of the bucket has the bucket's prefix
-    pub prefix-same : (r : ℕ) → i * b ≤ r → r < bucketEnd (length T) b i → prefixItem (keyAt T r) (bucketLength b T i) ≡ bucketPrefix b T i
+    pub prefix-same : (r : ℕ) → i * b ≤ r → r < bucketEnd (length T) b i
+        → prefixItem (keyAt T r) (bucketLength b T i) ≡ bucketPrefix b T i
     prefix-same r low high = ⊎-elim alone among one-or-more
       where
         alone : One b T i → prefixItem (keyAt T r) (bucketLength b T i) ≡ bucketPrefix b T i
@@ -125,11 +131,15 @@ module _ (T : List ℕ) (t : Table T) where
             let on = keys-rise T t r last (omega arith) (omega arith) in
             let outer = shared-min (firstKey b T i) (keyAt T r) (lastKey b T i) up on last-fits in
             let shares : l ≤ sharedBits (firstKey b T i) (keyAt T r) = omega (arith, length-more more) in
-            let bits = shared-iff (firstKey b T i) (keyAt T r) first-fits (t .fits r (omega arith)) l (omega (arith, length-small)) .0 shares in
+            let bits =
+            shared-iff (firstKey b T i) (keyAt T r) first-fits (t .fits r (omega arith)) l
+            (omega (arith, length-small)) .0 shares in
             ap (λ (u : ℕ). u * 2 ^ (64 - l) + 2 ^ (63 - l)) (sym bits)
 
-  -- no two buckets have the same prefix: the earlier has two keys or more, and the bit at which they part is set in the later one's first key
-  pub prefixes-differ : (b i j : ℕ) → 2 ≤ b → i < j → j < buckets (length T) b → bucketPrefix b T i ≡ bucketPrefix b T j → ⊥
+  -- no two buckets have the same prefix: the earlier has two keys or more, and the bit at which they part is set in
+  -- the later one's first key
+  pub prefixes-differ : (b i j : ℕ) → 2 ≤ b → i < j → j < buckets (length T) b
+      → bucketPrefix b T i ≡ bucketPrefix b T j → ⊥
   prefixes-differ b i j hb less h e =
       let n = length T in
       let some : 1 ≤ b = omega arith in
@@ -140,11 +150,14 @@ module _ (T : List ℕ) (t : Table T) where
       let high = keys-above T t (bucketEnd n b i - 1) (j * b) (omega arith) begins in
       let small = length-small b i some there in
       let small' = length-small b j some h in
-      let inj = item-inj (firstKey b T i) (firstKey b T j) (bucketLength b T i) (bucketLength b T j) (omega arith) (omega arith) e in
+      let inj =
+      item-inj (firstKey b T i) (firstKey b T j) (bucketLength b T i) (bucketLength b T j) (omega arith)
+      (omega arith) e in
       let k = 63 - bucketLength b T i in
       let size : 64 - bucketLength b T i ≡ suc k = omega arith in
       let p = parts b i some there (next .1) k (omega arith) in
-      let bit = third (firstKey b T i) (lastKey b T i) (firstKey b T j) k (p .0) (p .1) (omega arith) (rw size at (inj .1)) in
+      let bit =
+      third (firstKey b T i) (lastKey b T i) (firstKey b T j) k (p .0) (p .1) (omega arith) (rw size at (inj .1)) in
       ⊎-elim (λ one. let all : k ≡ 0 = omega (arith, length-one b j some h one) in omega (arith, rw all at (bit .0)))
       (λ more. omega (arith, parts b j some h more k (omega arith), halve (firstKey b T j) k, halve (lastKey b T j) k)) (one-or-more b j some h)
 
@@ -154,7 +167,8 @@ passed true u e = differ (cc)
 passed false u e = (refl, e)
 
 -- what is known where there is a bucket i
-pub has-bucket-limits : (n b i : ℕ) → hasBucket n b i ≡ true → (n ≤ mostKeys) × (2 ≤ b) × (b ≤ 256) × (i < buckets n b)
+pub has-bucket-limits : (n b i : ℕ) → hasBucket n b i ≡ true
+    → (n ≤ mostKeys) × (2 ≤ b) × (b ≤ 256) × (i < buckets n b)
 unfolding hasBucket
 has-bucket-limits n b i e =
     let keys = passed (ltb mostKeys n) _ e in

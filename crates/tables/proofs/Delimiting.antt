@@ -8,6 +8,7 @@ use native.Mathlib.Omega.{arith}
 use lib.ListN.{length}
 use Rattle.tables.specs.Tables.{keyAt, Table}
 use Rattle.tables.specs.Delimiters.{buckets, bucketEnd, delimiters}
+use Rattle.tables.specs.Vouched.{DelimitersOne}
 use Rattle.tables.proofs.Lists.{length-listed, listed-at, listed-self}
 use Rattle.tables.proofs.Rising.{keys-rise}
 
@@ -25,7 +26,8 @@ next-row i b = rw (add-one, suc-mul)
 pub buckets-le : (n b : ℕ) → 1 ≤ b → buckets n b ≤ n
 buckets-le n b h =
     let k = buckets n b in
-    let no : ¬ (n < k) = λ g. (let begins = bucket-begins n b n h g in let more : n ≤ n * b = le-mul-of-pos-right n h in omega arith) in
+    let no : ¬ (n < k) =
+    λ g. (let begins = bucket-begins n b n h g in let more : n ≤ n * b = le-mul-of-pos-right n h in omega arith) in
     omega arith
 
 -- a bucket ends after it begins, and within the table
@@ -41,7 +43,8 @@ module _ (b : ℕ) (T : List ℕ) where
   unfolding delimiters
   length-delimiters = length-listed (buckets (length T) b) _
 
-  pub delimiter-is : (i : ℕ) → i < buckets (length T) b → keyAt (delimiters b T) i ≡ keyAt T (bucketEnd (length T) b i - 1)
+  pub delimiter-is : (i : ℕ) → i < buckets (length T) b
+      → keyAt (delimiters b T) i ≡ keyAt T (bucketEnd (length T) b i - 1)
   unfolding delimiters
   delimiter-is i h = listed-at (buckets (length T) b) _ i h
 
@@ -54,7 +57,8 @@ module _ (b : ℕ) (T : List ℕ) where
           let e = bucket-ends (length T) b i hb l in
           rw (delimiter-is i l) (t .fits (bucketEnd (length T) b i - 1) (omega arith))
 
-      rises : (i : ℕ) → suc i < length (delimiters b T) → keyAt (delimiters b T) i < keyAt (delimiters b T) (suc i)
+      rises : (i : ℕ) → suc i < length (delimiters b T)
+          → keyAt (delimiters b T) i < keyAt (delimiters b T) (suc i)
       rises i h =
           let l : suc i < buckets (length T) b = rw length-delimiters at h in
           let k : i < buckets (length T) b = omega arith in
@@ -68,7 +72,7 @@ module _ (b : ℕ) (T : List ℕ) where
           rw (delimiter-is i k, delimiter-is (suc i) l) (omega arith)
 
 -- with buckets of one row they are the table itself
-pub delimiters-one : (T : List ℕ) → delimiters 1 T ≡ T
+pub delimiters-one : DelimitersOne
 unfolding delimiters
 delimiters-one T =
     let n = length T in

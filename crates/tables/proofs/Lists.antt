@@ -1,7 +1,7 @@
 -- The laws of `listed`. Assumes nothing.
 use mathlib.Core.Path.{_≡_, refl, ap, _∙_}
-use mathlib.Core.List.{List, [], _∷_}
-use Prim.Native.Nat.{ℕ, zero, suc, _<_, _≤_, suc-le-suc}
+use mathlib.Core.List.{List}
+use Prim.Native.Nat.{ℕ, zero, suc, _<_}
 use native.Mathlib.Nat.{le-of-suc-le-suc}
 use native.Mathlib.Omega.{arith}
 use lib.ListN.{length, getD}
@@ -20,7 +20,8 @@ listed-at (suc n) f zero h = refl
 listed-at (suc n) f (suc i) h = listed-at n (λ i. f (suc i)) i (le-of-suc-le-suc h)
 
 -- a list is its elements in order
-pub listed-self : (T : List ℕ) (f : ℕ → ℕ) → ((i : ℕ) → i < length T → f i ≡ getD T i 0) → listed (length T) f ≡ T
+pub listed-self : (T : List ℕ) (f : ℕ → ℕ) → ((i : ℕ) → i < length T → f i ≡ getD T i 0)
+    → listed (length T) f ≡ T
 listed-self T f same =
     ext-getD 0 (listed (length T) f) T (length-listed (length T) f)
     (λ i h. let l : i < length T = omega (arith, length-listed (length T) f) in listed-at (length T) f i l ∙ same i l)

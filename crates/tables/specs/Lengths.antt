@@ -1,6 +1,6 @@
 -- Document 01, "Refusal numbers and their order": the named lengths of the lent stores, for n keys and bucket size b.
 use mathlib.Core.Bool.{cond}
-use Prim.Native.Nat.{ℕ, _+_, _-_, _*_}
+use Prim.Native.Nat.{ℕ, _+_, _-_}
 use lib.Dec.{ltb}
 use Rattle.refusals.specs.Numbers.{number, names}
 use Rattle.cells.specs.Cells.{cellCount, workCount}
@@ -31,17 +31,18 @@ neighbourWork n = workCount (handleCount n)
 
 -- what a caller is told: call cells, handle cells, left, right, work of the call build, work of the neighbour build;
 -- or a refusal's number and what it names
-pub data Told : Type 0 where
-  lengths : ℕ → ℕ → ℕ → ℕ → ℕ → ℕ → Told
-  refused : ℕ → ℕ → Told
+pub data LendSaid : Type 0 where
+  lengths : ℕ → ℕ → ℕ → ℕ → ℕ → ℕ → LendSaid
+  refused : ℕ → ℕ → LendSaid
 
 -- the answer in document 01's numbers
-abbrev pub told : Lend → Told
-told (Lengths l) = lengths (l .«call_cells») (l .«handle_cells») (l .left) (l .right) (l .«call_work») (l .«neighbour_work»)
-told (Refused r) = refused (number r) (names r)
+abbrev pub saidByLend : Lend → LendSaid
+saidByLend (Lengths l) =
+    lengths (l .«call_cells») (l .«handle_cells») (l .left) (l .right) (l .«call_work») (l .«neighbour_work»)
+saidByLend (Refused r) = refused (number r) (names r)
 
 -- refusal 1 for more than 32,768 keys, then 2 for a bucket size outside 2 to 256, then the lengths
-unfoldable pub namedLengths : ℕ → ℕ → Told
+unfoldable pub namedLengths : ℕ → ℕ → LendSaid
 namedLengths n b =
     cond (ltb mostKeys n) (refused 1 0)
     (cond (ltb b 2) (refused 2 0)

@@ -3,3 +3,5 @@ pub mod Tables
 pub mod Delimiters
 pub mod Buckets
 pub mod Lengths
+pub mod Vouched
+pub mod Determined

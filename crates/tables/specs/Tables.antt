@@ -1,7 +1,7 @@
 -- Document 01, "The two indexes": a table is a list of 64-bit keys, strictly rising.
 use mathlib.Core.Bool.{Bool, cond}
 use mathlib.Core.List.{List, [], _∷_}
-use Prim.Native.Nat.{ℕ, zero, suc, _+_, _-_, _*_, _/_, _^_, _<_, min}
+use Prim.Native.Nat.{ℕ, zero, suc, _-_, _^_, _<_, min}
 use lib.Dec.{leb, ltb}
 use lib.ListN.{length, getD}
 use Rattle.words.specs.Keys.{sharedBits}

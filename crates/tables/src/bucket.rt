@@ -20,7 +20,8 @@ fn bucket_end(n: usize, b: usize, i: usize) -> usize
     n
 }
 
-// How many leading bits all keys of bucket i share, which in a table are those of its first and last key; 63 for a bucket of one key.
+// How many leading bits all keys of bucket i share, which in a table are those of its first and last key; 63 for a
+// bucket of one key.
 pub fn bucket_length(keys: &[u64], b: usize, i: usize) -> u32
     requires { ⌜ Table (now keys) × Bucketed b (now keys) × (i < buckets (length (now keys)) b) ⌝ }
     ensures { λ r. ⌜ (r ≡ bucketLength b (now (keys .entry)) i) × (r ≤ 63) ⌝ }
@@ -49,11 +50,12 @@ fn has_bucket(n: usize, b: usize, i: usize) -> bool
     i < bucket_count(n, b)
 }
 
-// Bucket i's rows as a part of the caller's own table: the same memory, from row i * b on. An empty part if n or b is outside its limits or there
-// is no bucket i. The keys need not rise.
+// Bucket i's rows as a part of the caller's own table: the same memory, from row i * b on. An empty part if n or b is
+// outside its limits or there is no bucket i. The keys need not rise.
 pub fn bucket_view(keys: &[u64], b: usize, i: usize) -> &[u64]
     ensures rows { λ r. ⌜ now r ≡ bucketView b (now (keys .entry)) i ⌝ }
-    ensures own { λ r. ⌜ r .ptr ≡ (keys .entry .ptr .0, viewStart (length (now (keys .entry))) b i * 8 + keys .entry .ptr .1) ⌝ }
+    ensures own { λ r. ⌜ r .ptr
+        ≡ (keys .entry .ptr .0, viewStart (length (now (keys .entry))) b i * 8 + keys .entry .ptr .1) ⌝ }
 {
     let n = keys.len();
     if has_bucket(n, b, i) {

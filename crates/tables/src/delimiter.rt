@@ -1,5 +1,5 @@
-// The delimiters of a table: the last key of each bucket, read from the table. With buckets of one row they are the table itself, and are read
-// without a division or a product.
+// The delimiters of a table: the last key of each bucket, read from the table. With buckets of one row they are the
+// table itself, and are read without a division or a product.
 ghost use mathlib.Core.Path.{_≡_};
 ghost use Prim.Native.Nat.{_≤_, _<_};
 ghost use lib.ListN.{length};

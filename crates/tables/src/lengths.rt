@@ -1,7 +1,8 @@
 // The named length of every store that a caller lends (document 01, "Refusal numbers and their order").
 ghost use mathlib.Core.Path.{_≡_};
 ghost use Prim.Native.Nat.{_≤_};
-ghost use Rattle.tables.specs.Lengths.{handleCount, callCells, handleCells, callWork, neighbourWork, told, namedLengths};
+ghost use Rattle.tables.specs.Lengths.{handleCount, callCells, handleCells, callWork, neighbourWork};
+ghost use Rattle.tables.specs.Lengths.{saidByLend, namedLengths};
 use crate::delimiter::bucket_count;
 use cells::cell_count;
 use cells::work_count;
@@ -65,9 +66,10 @@ pub fn neighbour_work(n: usize) -> usize
     work_count(handle_count(n))
 }
 
-// The named length of every store for n keys in buckets of b rows: refusal 1 for more than 32,768 keys, then 2 for a b outside 2 to 256.
+// The named length of every store for n keys in buckets of b rows: refusal 1 for more than 32,768 keys, then 2 for a
+// b outside 2 to 256.
 pub fn named_lengths(n: usize, b: usize) -> Lend
-    ensures { λ r. ⌜ told r ≡ namedLengths n b ⌝ }
+    ensures { λ r. ⌜ saidByLend r ≡ namedLengths n b ⌝ }
 {
     if n > 32768 {
         return Lend::Refused(Refusal::TooManyKeys);

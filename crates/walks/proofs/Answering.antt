@@ -1,5 +1,5 @@
--- The theorems on the walk: over what an accepted build leaves it is the walk over the table alone, which counts the smaller keys, and over
--- any stores it makes few probes. Assumes nothing.
+-- The theorems on the walk: over what an accepted build leaves it is the walk over the table alone, which counts the
+-- smaller keys, and over any stores it makes few probes. Assumes nothing.
 use mathlib.Core.Path.{_≡_, refl, sym, ap, _∙_}
 use mathlib.Core.Bool.{true, false, cond, _&&_}
 use mathlib.Core.List.{List, []}
@@ -18,7 +18,8 @@ use Rattle.splits.specs.Splits.{len, root, leftEntry, rightEntry}
 use Rattle.basics.proofs.Bools.{both, by-test}
 use Rattle.splits.proofs.Rows.{less-by, len-lt}
 use Rattle.splits.proofs.Parents.{root-pos, root-lt, root-all, left-root, left-split, right-split}
-use Rattle.walks.specs.Walk.{onPath, Descent, descend, Answer, before, spoiled, Walk, decide, walk, pathWalk, storeWalk, Stored}
+use Rattle.walks.specs.Walk.{onPath, Descent, descend, Answer, before, spoiled}
+use Rattle.walks.specs.Walk.{Walk, decide, walk, pathWalk, storeWalk, Stored}
 use Rattle.walks.proofs.Paths.{OnPath}
 use Rattle.walks.proofs.Descending.{onward-split, Deepest, descend-path, descend-deep, descend-probes}
 use Rattle.walks.proofs.Deciding.{decides, smaller-low, smaller-high, smaller-most}
@@ -27,7 +28,8 @@ abbrev pub halt : ℕ → Answer → Walk
 halt m a = record { probed = []; node = m; answer = a }
 
 abbrev pub ended : List ℕ → ℕ → (lefts rights : ℕ → ℕ) → Descent → Walk
-ended T x lefts rights d = record { probed = d .probed; node = d .node; answer = decide T x (lefts (d .node)) (d .node) (rights (d .node)) }
+ended T x lefts rights d =
+    record { probed = d .probed; node = d .node; answer = decide T x (lefts (d .node)) (d .node) (rights (d .node)) }
 
 -- the walk case by case
 module _ (T : List ℕ) (x : ℕ) (find lefts rights : ℕ → ℕ) where
@@ -50,15 +52,18 @@ module _ (T : List ℕ) (x : ℕ) (find lefts rights : ℕ → ℕ) where
   module _ (h : 2 ≤ length T) (r : ℕ) (e : lefts 0 ≡ r) where
     walk-two : walk T x find lefts rights
         ≡ cond (leb 1 r && (ltb r (length T) && leb (len T r) 63))
-        (cond (onPath T x r) (ended T x lefts rights (descend T x find 64 r 64)) (halt r (before (cond (leb x (keyAt T r)) 0 (length T)))))
+        (cond (onPath T x r) (ended T x lefts rights (descend T x find 64 r 64))
+        (halt r (before (cond (leb x (keyAt T r)) 0 (length T)))))
         (halt r spoiled)
     unfolding walk
     walk-two = rw (ne-eqb (length T) 0 (λ z. omega arith), ne-eqb (length T) 1 (λ z. omega arith), e)
 
-    pub walk-off : Rooted r → onPath T x r ≡ false → walk T x find lefts rights ≡ halt r (before (cond (leb x (keyAt T r)) 0 (length T)))
+    pub walk-off : Rooted r → onPath T x r ≡ false
+        → walk T x find lefts rights ≡ halt r (before (cond (leb x (keyAt T r)) 0 (length T)))
     walk-off R off = walk-two ∙ (rw (root-test r R, off))
 
-    pub walk-on : Rooted r → onPath T x r ≡ true → walk T x find lefts rights ≡ ended T x lefts rights (descend T x find 64 r 64)
+    pub walk-on : Rooted r → onPath T x r ≡ true
+        → walk T x find lefts rights ≡ ended T x lefts rights (descend T x find 64 r 64)
     walk-on R on = walk-two ∙ (rw (root-test r R, on))
 
     pub walk-bad : (Rooted r → ⊥) → walk T x find lefts rights ≡ halt r spoiled
@@ -70,18 +75,22 @@ module _ (T : List ℕ) (x : ℕ) (find lefts rights : ℕ → ℕ) where
         (λ k. rw k)
 
   -- a walk makes no probes, or those from its root on
-  few-probes : (k : ℕ) → (len T (lefts 0) ≤ 63 → length (descend T x find 64 (lefts 0) 64 .probed) ≤ k) → length (walk T x find lefts rights .probed) ≤ k
+  few-probes : (k : ℕ) → (len T (lefts 0) ≤ 63 → length (descend T x find 64 (lefts 0) 64 .probed) ≤ k)
+      → length (walk T x find lefts rights .probed) ≤ k
   unfolding walk
   few-probes k few =
       let r = lefts 0 in
       by-test (eqb (length T) 0) (λ e. rw e zero-le)
       (λ e. rw e (by-test (eqb (length T) 1) (λ e₁. rw e₁ zero-le)
-      (λ e₁. rw e₁ (by-test (leb 1 r) (λ e₂. rw e₂ (by-test (ltb r (length T)) (λ e₃. rw e₃ (by-test (leb (len T r) 63)
-      (λ e₄. rw e₄ (by-test (onPath T x r) (λ e₅. rw e₅ (few (leb-true (len T r) 63 e₄))) (λ e₅. rw e₅ zero-le)))
+      (λ e₁. rw e₁ (by-test (leb 1 r)
+      (λ e₂. rw e₂ (by-test (ltb r (length T)) (λ e₃. rw e₃ (by-test (leb (len T r) 63)
+      (λ e₄. rw e₄ (by-test (onPath T x r) (λ e₅. rw e₅ (few (leb-true (len T r) 63 e₄)))
+      (λ e₅. rw e₅ zero-le)))
       (λ e₄. rw e₄ zero-le))) (λ e₃. rw e₃ zero-le))) (λ e₂. rw e₂ zero-le)))))
 
   bound : len T (lefts 0) ≤ 63
-      → let made = length (descend T x find 64 (lefts 0) 64 .probed) in let most = binaryDigits (63 - len T (lefts 0)) in (made ≤ most) × (most ≤ 6)
+      → let made = length (descend T x find 64 (lefts 0) 64 .probed) in let most =
+      binaryDigits (63 - len T (lefts 0)) in (made ≤ most) × (most ≤ 6)
   bound h = probes-from (len T (lefts 0)) (omega arith) (descend-probes T x find 64 (lefts 0) 64 (omega arith))
 
   -- W5: over any stores the probes are no more than 63 - len of the root split has binary digits
@@ -109,12 +118,15 @@ module _ (T : List ℕ) (t : Table T) (x : ℕ) where
   root-path h e = record { pos = root-pos T h; small = root-lt T h; same = eqb-true _ _ e }
 
   -- the walk over the table ends at the deepest split on x's path
-  end-deepest : 2 ≤ length T → onPath T x (root T) ≡ true → Deepest T x (descend T x (onward-split T x) 64 (root T) 64 .node)
+  end-deepest : 2 ≤ length T → onPath T x (root T) ≡ true
+      → Deepest T x (descend T x (onward-split T x) 64 (root T) 64 .node)
   end-deepest h e =
-      descend-deep T t x 64 (root T) 64 (root-path h e) (le-refl 64) (λ k P. len-lt T t k (P .pos) (P .small)) (omega arith)
+      descend-deep T t x 64 (root T) 64 (root-path h e) (le-refl 64) (λ k P. len-lt T t k (P .pos) (P .small))
+      (omega arith)
 
   -- a key without the root's string stands before all rows or after all
-  off-root : 2 ≤ length T → onPath T x (root T) ≡ false → cond (leb x (keyAt T (root T))) 0 (length T) ≡ smaller T x
+  off-root : 2 ≤ length T → onPath T x (root T) ≡ false
+      → cond (leb x (keyAt T (root T))) 0 (length T) ≡ smaller T x
   off-root h off =
       let r = root T in
       let L = len T r in
@@ -138,7 +150,8 @@ module _ (T : List ℕ) (t : Table T) (x : ℕ) where
   one-row e =
       let c = smaller T x in
       by-test (leb x (keyAt T 0))
-      (λ k. rw k (let no : ¬ (0 < c) = λ g. (omega (arith, smaller-low T t x 0 g, leb-true x (keyAt T 0) k)) in omega arith))
+      (λ k. rw k (let no : ¬ (0 < c) = λ g. (omega (arith, smaller-low T t x 0 g, leb-true x (keyAt T 0) k)) in
+      omega arith))
       (λ k. rw k (
       let no : ¬ (c ≤ 0) = λ g. (omega (arith, smaller-high T t x 0 g (omega arith), leb-false x (keyAt T 0) k)) in
       omega (arith, smaller-most T t x)))
@@ -151,7 +164,8 @@ module _ (T : List ℕ) (t : Table T) (x : ℕ) where
       let ls = leftEntry T in
       let rs = rightEntry T in
       by-size (length T)
-      (λ e. rw (walk-none T x find ls rs e) (let none : 0 ≡ smaller T x = omega (arith, smaller-most T t x) in ap before none))
+      (λ e. rw (walk-none T x find ls rs e)
+      (let none : 0 ≡ smaller T x = omega (arith, smaller-most T t x) in ap before none))
       (λ e. rw (walk-one T x find ls rs e) (ap before (one-row e)))
       (λ h. by-test (onPath T x (root T))
       (λ on.
@@ -162,7 +176,8 @@ module _ (T : List ℕ) (t : Table T) (x : ℕ) where
       (λ off. rw (walk-off T x find ls rs h (root T) (left-root T) (rooted h) off) (ap before (off-root h off))))
 
   -- W3: over what an accepted build leaves the walk is that over the table
-  pub stored-walk : (lookUp : ℕ → ℕ) (lefts rights : List ℕ) → Stored T lookUp lefts rights → storeWalk T x lookUp lefts rights ≡ pathWalk T x
+  pub stored-walk : (lookUp : ℕ → ℕ) (lefts rights : List ℕ) → Stored T lookUp lefts rights
+      → storeWalk T x lookUp lefts rights ≡ pathWalk T x
   unfolding pathWalk storeWalk
   stored-walk lookUp lefts rights S =
       let look : ℕ → ℕ = λ f. lookUp (prefixItem x f) in
@@ -180,18 +195,11 @@ module _ (T : List ℕ) (t : Table T) (x : ℕ) where
       (λ on.
       let D = end-deepest h on in
       let d = descend T x find 64 (root T) 64 in
-      let same : descend T x look 64 (root T) 64 ≡ d = descend-path T t x lookUp (S .handles) 64 (root T) 64 (root-path h on) (le-refl 64) in
+      let same : descend T x look 64 (root T) 64 ≡ d =
+      descend-path T t x lookUp (S .handles-lead) 64 (root T) 64 (root-path h on) (le-refl 64) in
       let s = D .path .small in
       walk-on T x look lefts′ rights′ h (root T) at-root (rooted h) on
       ∙ (rw (same, S .lefts-are (d .node) s, S .rights-are (d .node) s))
       ∙ sym (walk-on T x find ls rs h (root T) (left-root T) (rooted h) on))
       (λ off. walk-off T x look lefts′ rights′ h (root T) at-root (rooted h) off
       ∙ sym (walk-off T x find ls rs h (root T) (left-root T) (rooted h) off)))
-
-  -- demand 3 over stored maps: the number of smaller keys, in at most as many probes as 63 - L has bits, L the bits that all keys share
-  pub stored-answer : (lookUp : ℕ → ℕ) (lefts rights : List ℕ) → Stored T lookUp lefts rights
-      → let w = storeWalk T x lookUp lefts rights in (w .answer ≡ before (smaller T x)) × (length (w .probed) ≤ binaryDigits (63 - len T (root T)))
-  unfolding pathWalk
-  stored-answer lookUp lefts rights S =
-      rw (stored-walk lookUp lefts rights S)
-      (path-answer, rw (left-root T) at (walk-probes T x (onward-split T x) (leftEntry T) (rightEntry T)))

@@ -13,7 +13,8 @@ use Rattle.words.specs.Keys.{firstBits, bitAt}
 use Rattle.tables.specs.Tables.{keyAt, Table, smaller}
 use Rattle.splits.specs.Splits.{len, left, right}
 use Rattle.basics.proofs.Bools.{by-test}
-use Rattle.splits.proofs.Rows.{next-bit, less-by, smaller-edge, len-lt, len-iff, neighbours, rows-below, rows-above, low-side, high-side}
+use Rattle.splits.proofs.Rows.{next-bit, less-by, smaller-edge, len-lt, len-iff}
+use Rattle.splits.proofs.Rows.{neighbours, rows-below, rows-above, low-side, high-side}
 use Rattle.splits.proofs.Rows.{left-lt, right-gt, right-le}
 use Rattle.walks.specs.Walk.{before, decide}
 use Rattle.walks.proofs.Paths.{OnPath}
@@ -26,7 +27,8 @@ module _ (T : List ℕ) (t : Table T) (x : ℕ) where
     where
       same : firstBits (len T c) x ≡ firstBits (len T c) (keyAt T c)
       same =
-          let lo : firstBits (len T c) (keyAt T (c - 1)) ≤ firstBits (len T c) x = shr-mono (64 - len T c) (le-of-lt h) in
+          let lo : firstBits (len T c) (keyAt T (c - 1)) ≤ firstBits (len T c) x =
+          shr-mono (64 - len T c) (le-of-lt h) in
           let hi : firstBits (len T c) x ≤ firstBits (len T c) (keyAt T c) = shr-mono (64 - len T c) l in
           omega (arith, neighbours T t c pos small)
 
@@ -55,7 +57,8 @@ module _ (T : List ℕ) (t : Table T) (x : ℕ) where
     from-left =
         let no : ¬ (c < left T m) = λ g. (
         let in-table : c < length T = omega (arith, small, left-lt T t m pos small) in
-        let under : firstBits (len T m) (keyAt T c) < firstBits (len T m) x = rw (D .path .same) (rows-below T t m pos small c g) in
+        let under : firstBits (len T m) (keyAt T c) < firstBits (len T m) x =
+        rw (D .path .same) (rows-below T t m pos small c g) in
         omega (arith, smaller-high c (le-refl c) in-table, less-by (len T m) (keyAt T c) x under)) in
         omega arith
 
@@ -64,7 +67,8 @@ module _ (T : List ℕ) (t : Table T) (x : ℕ) where
         let b = right T m in
         let no : ¬ (b < c) = λ g. (
         let in-table : b < length T = omega (arith, smaller-most) in
-        let over : firstBits (len T m) x < firstBits (len T m) (keyAt T b) = rw (D .path .same) (rows-above T t m pos small b (le-refl b) in-table) in
+        let over : firstBits (len T m) x < firstBits (len T m) (keyAt T b) =
+        rw (D .path .same) (rows-above T t m pos small b (le-refl b) in-table) in
         omega (arith, smaller-low b g, less-by (len T m) x (keyAt T b) over)) in
         omega arith
 
@@ -76,8 +80,10 @@ module _ (T : List ℕ) (t : Table T) (x : ℕ) where
         let P = between-on c p in-table (smaller-low (c - 1) (omega arith)) (smaller-high c (le-refl c) in-table) in
         let both-sides : firstBits (suc (len T m)) (keyAt T (c - 1)) ≡ firstBits (suc (len T m)) (keyAt T c) =
         elim (decLe m c) [
-          | yes k ↦ high-side T t m pos small (c - 1) (omega arith) (omega arith) ∙ sym (high-side T t m pos small c k g)
-          | no k ↦ low-side T t m pos small (c - 1) (omega arith) (omega arith) ∙ sym (low-side T t m pos small c (omega arith) (omega arith))
+          | yes k ↦ high-side T t m pos small (c - 1) (omega arith) (omega arith)
+              ∙ sym (high-side T t m pos small c k g)
+          | no k ↦ low-side T t m pos small (c - 1) (omega arith) (omega arith)
+              ∙ sym (low-side T t m pos small c (omega arith) (omega arith))
         ] in
         omega (arith, D .deep c P, len-iff T t c p in-table (suc (len T m)) (len-lt T t m pos small) .1 both-sides)
 
@@ -93,7 +99,8 @@ module _ (T : List ℕ) (t : Table T) (x : ℕ) where
     bit-one e =
         let lt = len-lt T t m pos small in
         let side = low-side T t m pos small (m - 1) (omega (arith, left-lt T t m pos small)) (omega (arith, pos)) in
-        let less = less-by (suc (len T m)) (keyAt T (m - 1)) x (omega (arith, next-bit (len T m) x lt, D .path .same)) in
+        let less = less-by (suc (len T m)) (keyAt T (m - 1)) x
+        (omega (arith, next-bit (len T m) x lt, D .path .same)) in
         let no : ¬ (c < m) = λ g. (omega (arith, smaller-high (m - 1) (omega arith) (omega (arith, small)))) in
         omega arith
 
@@ -113,7 +120,8 @@ module _ (T : List ℕ) (t : Table T) (x : ℕ) where
         (λ e.
         let cm : c ≤ m = bit-zero (eqb-true _ _ e) in
         rw e (by-test (leb x (keyAt T a))
-        (λ k. let no : ¬ (a < c) = λ g. (omega (arith, smaller-low a g, leb-true x (keyAt T a) k)) in let is : a ≡ c = omega arith in rw k (ap before is))
+        (λ k. let no : ¬ (a < c) = λ g. (omega (arith, smaller-low a g, leb-true x (keyAt T a) k)) in
+        let is : a ≡ c = omega arith in rw k (ap before is))
         (λ k.
         let no : ¬ (c ≤ a) = λ g. (omega (arith, smaller-high a g (omega arith), leb-false x (keyAt T a) k)) in
         let no′ : ¬ (c < m) = λ g. no-deeper (omega arith) (omega arith) (λ z. omega arith) in
@@ -122,7 +130,8 @@ module _ (T : List ℕ) (t : Table T) (x : ℕ) where
         (λ e.
         let mc : m ≤ c = bit-one (eqb-false _ _ e) in
         rw e (by-test (leb x (keyAt T m))
-        (λ k. let no : ¬ (m < c) = λ g. (omega (arith, smaller-low m g, leb-true x (keyAt T m) k)) in let is : m ≡ c = omega arith in rw k (ap before is))
+        (λ k. let no : ¬ (m < c) = λ g. (omega (arith, smaller-low m g, leb-true x (keyAt T m) k)) in
+        let is : m ≡ c = omega arith in rw k (ap before is))
         (λ k.
         let no : ¬ (c ≤ m) = λ g. (omega (arith, smaller-high m g ms, leb-false x (keyAt T m) k)) in
         let no′ : ¬ (c < b) = λ g. no-deeper (omega arith) g (λ z. omega arith) in

@@ -1,5 +1,5 @@
--- The probes of a walk: over any stores they are those of a fat binary search, over what an accepted build leaves those of the walk over
--- the table alone (W1 to W3), and that ends at the deepest split on x's path. Assumes nothing.
+-- The probes of a walk: over any stores they are those of a fat binary search, over what an accepted build leaves
+-- those of the walk over the table alone (W1 to W3), and that ends at the deepest split on x's path. Assumes nothing.
 use mathlib.Core.Path.{_≡_, refl, sym, ap, _∙_}
 use mathlib.Core.Bool.{true, false, cond}
 use mathlib.Core.List.{List, [], _∷_}
@@ -10,20 +10,20 @@ use borrow.Author.Tests.{ltb-true, leb-true, eqb-true, lt-ltb, le-ltb, eq-eqb, l
 use lib.Dec.{leb, ltb}
 use lib.ListN.{length}
 use Rattle.words.specs.Keys.{prefixItem}
-use Rattle.words.specs.Fat.{Fattest, Probes, done, below, onward}
+use Rattle.words.specs.Fat.{Probes, done, below, onward}
 use Rattle.tables.specs.Tables.{Table}
 use Rattle.splits.specs.Splits.{len, root, handleItem}
 use Rattle.basics.proofs.Bools.{both, not-both, by-test}
-use Rattle.walks.specs.Walk.{onPath, probeAt, accepted, Descent, descend, pathTo}
+use Rattle.walks.specs.Walk.{onPath, probeAt, accepted, Descent, descend, TurnsSuffice, pathTo}
 use Rattle.walks.proofs.Paths.{probe-fattest, OnPath, Least, path-to, handle-at}
 
 -- what acceptance says
-pub record Taken (T : List ℕ) (x f upper m : ℕ) : Type 0 where
+pub record Acceptable (T : List ℕ) (x f upper m : ℕ) : Type 0 where
   pub path : OnPath T x m
   pub reach : f ≤ len T m
   pub short : len T m < upper
 
-pub accepted-means : (T : List ℕ) (x f upper m : ℕ) → accepted T x f upper m ≡ true → Taken T x f upper m
+pub accepted-means : (T : List ℕ) (x f upper m : ℕ) → accepted T x f upper m ≡ true → Acceptable T x f upper m
 unfolding accepted
 accepted-means T x f upper m e =
     let a = both (leb 1 m) _ e in
@@ -36,10 +36,16 @@ accepted-means T x f upper m e =
       short = ltb-true (len T m) upper (d .0);
     }
 
-pub accepted-when : (T : List ℕ) (x f upper m : ℕ) → Taken T x f upper m → accepted T x f upper m ≡ true
+pub accepted-when : (T : List ℕ) (x f upper m : ℕ) → Acceptable T x f upper m → accepted T x f upper m ≡ true
 unfolding accepted
 accepted-when T x f upper m K =
-    rw (le-leb 1 m (K .path .pos), lt-ltb m (length T) (K .path .small), le-leb f (len T m) (K .reach), lt-ltb (len T m) upper (K .short))
+    rw (
+      le-leb 1 m (K .path .pos),
+      lt-ltb m (length T) (K .path .small),
+      le-leb f (len T m) (K .reach),
+      lt-ltb
+          (len T m) upper (K .short),
+    )
     (eq-eqb _ _ (K .path .same))
 
 -- one turn
@@ -56,24 +62,29 @@ pub descend-goes : (T : List ℕ) (x : ℕ) (find : ℕ → ℕ) (turns node upp
 unfolding descend turn
 descend-goes T x find turns node upper h = rw (lt-ltb (suc (len T node)) upper h)
 
-pub descend-stops : (T : List ℕ) (x : ℕ) (find : ℕ → ℕ) (turns node upper : ℕ) → upper ≤ suc (len T node)
+pub descend-stops : (T : List ℕ) (x : ℕ) (find : ℕ → ℕ) (turns node upper : ℕ)
+    → upper ≤ suc (len T node)
     → descend T x find turns node upper ≡ record { probed = []; node = node }
 unfolding descend
 descend-stops T x find zero node upper h = refl
 descend-stops T x find (suc turns) node upper h = rw (le-ltb (suc (len T node)) upper h)
 
 -- a turn that accepts, and one that does not
-pub descend-accepts : (T : List ℕ) (x : ℕ) (find : ℕ → ℕ) (turns node upper f m : ℕ) → suc (len T node) < upper → f ≡ probeAt T node upper → m ≡ find f
+pub descend-accepts : (T : List ℕ) (x : ℕ) (find : ℕ → ℕ) (turns node upper f m : ℕ)
+    → suc (len T node) < upper → f ≡ probeAt T node upper → m ≡ find f
     → accepted T x f upper m ≡ true → let rest = descend T x find turns m upper in
     descend T x find (suc turns) node upper ≡ record { probed = f ∷ rest .probed; node = rest .node }
 unfolding turn
-descend-accepts T x find turns node upper f m h e e′ ok = descend-goes T x find turns node upper h ∙ rw (← e, ← e′, ok)
+descend-accepts T x find turns node upper f m h e e′ ok =
+    descend-goes T x find turns node upper h ∙ rw (← e, ← e′, ok)
 
-pub descend-rejects : (T : List ℕ) (x : ℕ) (find : ℕ → ℕ) (turns node upper f m : ℕ) → suc (len T node) < upper → f ≡ probeAt T node upper → m ≡ find f
+pub descend-rejects : (T : List ℕ) (x : ℕ) (find : ℕ → ℕ) (turns node upper f m : ℕ)
+    → suc (len T node) < upper → f ≡ probeAt T node upper → m ≡ find f
     → accepted T x f upper m ≡ false → let rest = descend T x find turns node f in
     descend T x find (suc turns) node upper ≡ record { probed = f ∷ rest .probed; node = rest .node }
 unfolding turn
-descend-rejects T x find turns node upper f m h e e′ ok = descend-goes T x find turns node upper h ∙ rw (← e, ← e′, ok)
+descend-rejects T x find turns node upper f m h e e′ ok =
+    descend-goes T x find turns node upper h ∙ rw (← e, ← e′, ok)
 
 -- W5: over any stores the probes are those of a fat binary search
 pub descend-probes : (T : List ℕ) (x : ℕ) (find : ℕ → ℕ) (turns node upper : ℕ) → upper ≤ 64
@@ -93,11 +104,13 @@ descend-probes T x find (suc turns) node upper h =
           (λ ok. let K = accepted-means T x f upper m ok in
           rw (descend-accepts T x find turns node upper f m room refl refl ok)
           (onward f (len T m) F (K .reach) (K .short) (descend-probes T x find turns m upper h)))
-          (λ ok. rw (descend-rejects T x find turns node upper f m room refl refl ok) (below f F (descend-probes T x find turns node f (omega arith)))))
+          (λ ok. rw (descend-rejects T x find turns node upper f m room refl refl ok)
+          (below f F (descend-probes T x find turns node f (omega arith)))))
     ]
 
 -- the turns never run out: more of them change nothing
-pub descend-enough : (T : List ℕ) (x : ℕ) (find : ℕ → ℕ) (turns more node upper : ℕ) → turns ≤ more → upper ≤ 64 → upper ≤ suc (len T node) + turns
+descend-enough : (T : List ℕ) (x : ℕ) (find : ℕ → ℕ) (turns more node upper : ℕ) → turns ≤ more
+    → upper ≤ 64 → upper ≤ suc (len T node) + turns
     → descend T x find more node upper ≡ descend T x find turns node upper
 descend-enough T x find zero more node upper h top room =
     descend-stops T x find more node upper (omega arith) ∙ sym (descend-stops T x find zero node upper (omega arith))
@@ -106,7 +119,8 @@ descend-enough T x find (suc turns) (suc more) node upper h top room =
     let f = probeAt T node upper in
     let m = find f in
     elim (decLe upper (suc (len T node))) [
-      | yes g ↦ descend-stops T x find (suc more) node upper g ∙ sym (descend-stops T x find (suc turns) node upper g)
+      | yes g ↦ descend-stops T x find (suc more) node upper g
+          ∙ sym (descend-stops T x find (suc turns) node upper g)
       | no g ↦ (
           let wide : suc (len T node) < upper = omega arith in
           let F = probe-fattest T node upper wide top in
@@ -126,6 +140,9 @@ descend-enough T x find (suc turns) (suc more) node upper h top room =
           ∙ sym (descend-rejects T x find turns node upper f m wide refl refl ok)))
     ]
 
+pub turns-suffice : TurnsSuffice
+turns-suffice T x find more node upper h top = descend-enough T x find 64 more node upper h top (omega arith)
+
 -- the split on x's path with the least length from f on
 abbrev pub onward-split : List ℕ → ℕ → ℕ → ℕ
 onward-split T x f = pathTo T x f (length T - 1)
@@ -140,7 +157,7 @@ module _ (T : List ℕ) (t : Table T) (x : ℕ) where
   is-path m h l e = record { pos = h; small = l; same = eqb-true _ _ e }
 
   -- where some split on the path has a length from f on and below upper, the one with the least length is accepted
-  found : (f upper m : ℕ) → Taken T x f upper m → Taken T x f upper (onward-split T x f)
+  found : (f upper m : ℕ) → Acceptable T x f upper m → Acceptable T x f upper (onward-split T x f)
   found f upper m K =
       let v = onward-split T x f in
       let L : Least T x f (length T - 1) v = path-to T x f (length T - 1) in
@@ -152,15 +169,19 @@ module _ (T : List ℕ) (t : Table T) (x : ℕ) where
       record { path = is-path v (r .0) (omega arith) (p .0); reach = p .1; short = omega arith }
 
   -- and it has the least length
-  found-least : (f upper : ℕ) → Taken T x f upper (onward-split T x f) → (m : ℕ) → OnPath T x m → f ≤ len T m → len T (onward-split T x f) ≤ len T m
+  found-least : (f upper : ℕ) → Acceptable T x f upper (onward-split T x f) → (m : ℕ) → OnPath T x m
+      → f ≤ len T m → len T (onward-split T x f) ≤ len T m
   found-least f upper K m P h =
       let some : m < length T = P .small in
       path-to T x f (length T - 1) .least m (P .pos) (omega arith) (eq-eqb _ _ (P .same)) h .1
 
   -- a look-up that leads each handle to its split
-  module _ (lookUp : ℕ → ℕ) (handles : (m : ℕ) → 0 < m → m < length T → (m ≡ root T → ⊥) → lookUp (handleItem T m) ≡ m) where
-    -- W1, W2: at a probe from a node on the path the look-up is accepted exactly if a split on the path is, and gives that one
-    look-finds : (node upper : ℕ) → OnPath T x node → suc (len T node) < upper → upper ≤ 64 → let f = probeAt T node upper in
+  module _ (lookUp : ℕ → ℕ)
+      (handles : (m : ℕ) → 0 < m → m < length T → (m ≡ root T → ⊥) → lookUp (handleItem T m) ≡ m) where
+    -- W1, W2: at a probe from a node on the path the look-up is accepted exactly if a split on the path is, and gives
+    -- that one
+    look-finds : (node upper : ℕ) → OnPath T x node → suc (len T node) < upper → upper ≤ 64
+        → let f = probeAt T node upper in
         accepted T x f upper (onward-split T x f) ≡ true → lookUp (prefixItem x f) ≡ onward-split T x f
     look-finds node upper N room top ok =
         let f = probeAt T node upper in
@@ -169,15 +190,18 @@ module _ (T : List ℕ) (t : Table T) (x : ℕ) where
         let h = handle-at T t x node upper v N (K .path) room top (K .reach) (K .short) (found-least f upper K) in
         rw (← (h .0)) (handles v (K .path .pos) (K .path .small) (h .1))
 
-    look-fails : (f upper : ℕ) → accepted T x f upper (onward-split T x f) ≡ false → accepted T x f upper (lookUp (prefixItem x f)) ≡ false
+    look-fails : (f upper : ℕ) → accepted T x f upper (onward-split T x f) ≡ false
+        → accepted T x f upper (lookUp (prefixItem x f)) ≡ false
     look-fails f upper ok =
         by-test (accepted T x f upper (lookUp (prefixItem x f)))
-        (λ e. absurd (not-both (accepted-when T x f upper (onward-split T x f) (found f upper _ (accepted-means T x f upper (lookUp (prefixItem x f)) e))) ok))
+        (λ e. absurd (not-both (accepted-when T x f upper (onward-split T x f)
+        (found f upper _ (accepted-means T x f upper (lookUp (prefixItem x f)) e))) ok))
         (λ e. e)
 
     -- W3
     pub descend-path : (turns node upper : ℕ) → OnPath T x node → upper ≤ 64
-        → descend T x (λ f. lookUp (prefixItem x f)) turns node upper ≡ descend T x (onward-split T x) turns node upper
+        → descend T x (λ f. lookUp (prefixItem x f)) turns node upper ≡ descend T x
+        (onward-split T x) turns node upper
     unfolding descend
     descend-path zero node upper N top = refl
     descend-path (suc turns) node upper N top =
@@ -185,7 +209,8 @@ module _ (T : List ℕ) (t : Table T) (x : ℕ) where
         let f = probeAt T node upper in
         let v = onward-split T x f in
         elim (decLe upper (suc (len T node))) [
-          | yes g ↦ descend-stops T x look (suc turns) node upper g ∙ sym (descend-stops T x (onward-split T x) (suc turns) node upper g)
+          | yes g ↦ descend-stops T x look (suc turns) node upper g
+              ∙ sym (descend-stops T x (onward-split T x) (suc turns) node upper g)
           | no g ↦ (
               let room : suc (len T node) < upper = omega arith in
               let F = probe-fattest T node upper room top in
@@ -195,16 +220,19 @@ module _ (T : List ℕ) (t : Table T) (x : ℕ) where
               let same : look f ≡ v = look-finds node upper N room top ok in
               let K = accepted-means T x f upper v ok in
               descend-accepts T x look turns node upper f v room refl (sym same) ok
-              ∙ ap (λ (d : Descent). record { probed = f ∷ d .probed; node = d .node }) (descend-path turns v upper (K .path) top)
+              ∙ ap (λ (d : Descent). record { probed = f ∷ d .probed; node = d .node })
+              (descend-path turns v upper (K .path) top)
               ∙ sym (descend-accepts T x (onward-split T x) turns node upper f v room refl refl ok))
               (λ ok.
               descend-rejects T x look turns node upper f (look f) room refl refl (look-fails f upper ok)
-              ∙ ap (λ (d : Descent). record { probed = f ∷ d .probed; node = d .node }) (descend-path turns node f N (omega arith))
+              ∙ ap (λ (d : Descent). record { probed = f ∷ d .probed; node = d .node })
+              (descend-path turns node f N (omega arith))
               ∙ sym (descend-rejects T x (onward-split T x) turns node upper f v room refl refl ok)))
         ]
 
   -- W4: the walk over the table ends there
-  pub descend-deep : (turns node upper : ℕ) → OnPath T x node → upper ≤ 64 → ((k : ℕ) → OnPath T x k → len T k < upper)
+  pub descend-deep : (turns node upper : ℕ) → OnPath T x node → upper ≤ 64
+      → ((k : ℕ) → OnPath T x k → len T k < upper)
       → upper ≤ suc (len T node) + turns → Deepest T x (descend T x (onward-split T x) turns node upper .node)
   unfolding descend
   descend-deep zero node upper N top all fuel = record { path = N; deep = λ k P. omega (arith, all k P) }
@@ -212,7 +240,11 @@ module _ (T : List ℕ) (t : Table T) (x : ℕ) where
       let f = probeAt T node upper in
       let v = onward-split T x f in
       elim (decLe upper (suc (len T node))) [
-        | yes g ↦ rw (descend-stops T x (onward-split T x) (suc turns) node upper g) (record { path = N; deep = λ k P. omega (arith, all k P) })
+        | yes g ↦ rw (descend-stops T x (onward-split T x) (suc turns) node upper g) (record {
+          path =
+              N;
+          deep = λ k P. omega (arith, all k P);
+        })
         | no g ↦ (
             let room : suc (len T node) < upper = omega arith in
             let F = probe-fattest T node upper room top in
@@ -222,11 +254,18 @@ module _ (T : List ℕ) (t : Table T) (x : ℕ) where
             (λ ok.
             let K = accepted-means T x f upper v ok in
             let reach : f ≤ len T v = K .reach in
-            rw (descend-accepts T x (onward-split T x) turns node upper f v room refl refl ok) (descend-deep turns v upper (K .path) top all (omega arith)))
+            rw (descend-accepts T x (onward-split T x) turns node upper f v room refl refl ok)
+            (descend-deep turns v upper (K .path) top all (omega arith)))
             (λ ok.
             let less : (k : ℕ) → OnPath T x k → len T k < f = λ k P. (
             let no : ¬ (f ≤ len T k) = λ h.
-            not-both (accepted-when T x f upper v (found f upper k (record { path = P; reach = h; short = all k P }))) ok in
+            not-both (accepted-when T x f upper v (found f upper k (record {
+              path =
+                  P;
+              reach = h;
+              short = all k P;
+            }))) ok in
             omega arith) in
-            rw (descend-rejects T x (onward-split T x) turns node upper f v room refl refl ok) (descend-deep turns node f N (omega arith) less (omega arith))))
+            rw (descend-rejects T x (onward-split T x) turns node upper f v room refl refl ok)
+            (descend-deep turns node f N (omega arith) less (omega arith))))
       ]

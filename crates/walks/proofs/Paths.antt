@@ -1,5 +1,5 @@
--- The splits on a key's path: the one with the least length from f on, those at the ends of a split's rows, and its handle (S6, W1).
--- Assumes nothing.
+-- The splits on a key's path: the one with the least length from f on, those at the ends of a split's rows, and its
+-- handle (S6, W1). Assumes nothing.
 use mathlib.Core.Path.{_≡_, refl, sym, _∙_}
 use mathlib.Core.Bool.{Bool, true, false, cond, _&&_}
 use mathlib.Core.List.{List}
@@ -16,12 +16,14 @@ use Rattle.words.proofs.Fatness.{fattest-one, fattest-of}
 use Rattle.tables.specs.Tables.{keyAt, Table}
 use Rattle.splits.specs.Splits.{len, left, right, root, parentLen, handleLen, handleItem}
 use Rattle.basics.proofs.Bools.{not-both}
-use Rattle.splits.proofs.Rows.{share-down, between, len-lt, len-iff, neighbours, rows-own, left-lt, right-gt, right-le, left-len, right-len}
+use Rattle.splits.proofs.Rows.{share-down, between, len-lt, len-iff, neighbours, rows-own}
+use Rattle.splits.proofs.Rows.{left-lt, right-gt, right-le, left-len, right-len}
 use Rattle.splits.proofs.Parents.{root-least, parent-left, parent-right, parent-lt}
 use Rattle.walks.specs.Walk.{onPath, probeAt, pathTo}
 
 -- the probe is the 2-fattest number strictly between
-pub probe-fattest : (T : List ℕ) (node upper : ℕ) → suc (len T node) < upper → upper ≤ 64 → Fattest (len T node) (upper - 1) (probeAt T node upper)
+pub probe-fattest : (T : List ℕ) (node upper : ℕ) → suc (len T node) < upper → upper ≤ 64
+    → Fattest (len T node) (upper - 1) (probeAt T node upper)
 probe-fattest T node upper h l = fattest-of (len T node) (upper - 1) (omega arith) (omega arith)
 
 -- m is a split on x's path
@@ -34,19 +36,23 @@ pub record OnPath (T : List ℕ) (x m : ℕ) : Type 0 where
 pub record Least (T : List ℕ) (x f M v : ℕ) : Type 0 where
   pub within : v ≤ M
   pub passes : 0 < v → (onPath T x v ≡ true) × (f ≤ len T v)
-  pub least : (m : ℕ) → 0 < m → m ≤ M → onPath T x m ≡ true → f ≤ len T m → (0 < v) × (len T v ≤ len T m)
+  pub least : (m : ℕ) → 0 < m → m ≤ M → onPath T x m ≡ true → f ≤ len T m
+      → (0 < v) × (len T v ≤ len T m)
 
 pub path-to : (T : List ℕ) (x f M : ℕ) → Least T x f M (pathTo T x f M)
 unfolding pathTo
-path-to T x f zero = record { within = zero-le; passes = λ h. absurd (omega arith); least = λ m h l. absurd (omega arith) }
+path-to T x f zero =
+    record { within = zero-le; passes = λ h. absurd (omega arith); least = λ m h l. absurd (omega arith) }
 path-to T x f (suc M) =
-    step (pathTo T x f M) (path-to T x f M) (onPath T x (suc M)) refl (leb f (len T (suc M))) refl (eqb (pathTo T x f M) 0) refl
+    step (pathTo T x f M) (path-to T x f M) (onPath T x (suc M)) refl (leb f (len T (suc M))) refl
+    (eqb (pathTo T x f M) 0) refl
     (ltb (len T (suc M)) (len T (pathTo T x f M))) refl
   where
     last : (m : ℕ) → m ≤ suc M → ¬ (m ≤ M) → m ≡ suc M
     last m l g = omega arith
 
-    step : (v : ℕ) → Least T x f M v → (a : Bool) → onPath T x (suc M) ≡ a → (b : Bool) → leb f (len T (suc M)) ≡ b
+    step : (v : ℕ) → Least T x f M v → (a : Bool) → onPath T x (suc M) ≡ a → (b : Bool)
+        → leb f (len T (suc M)) ≡ b
         → (c : Bool) → eqb v 0 ≡ c → (d : Bool) → ltb (len T (suc M)) (len T v) ≡ d
         → Least T x f (suc M) (cond (a && b) (cond c (suc M) (cond d (suc M) v)) v)
     step v S false e b e₁ c e₂ d e₃ = record {
@@ -99,7 +105,8 @@ path-to T x f (suc M) =
         }
 
 -- a 2-fattest number is that of each part of the range that holds it
-pub fattest-part : {a b f : ℕ} (c d : ℕ) → Fattest a b f → a ≤ c → c < f → f ≤ d → d ≤ b → Fattest c d f
+pub fattest-part : {a b f : ℕ} (c d : ℕ) → Fattest a b f → a ≤ c → c < f → f ≤ d → d ≤ b
+    → Fattest c d f
 fattest-part c d F h l g k = record {
   above = l;
   within = g;
@@ -120,7 +127,8 @@ module _ (T : List ℕ) (t : Table T) (x : ℕ) where
         pos = h;
         small = omega (arith, P .small);
         same = share-down (len T a) (len T v) x (keyAt T a) (omega arith) top
-            (P .same ∙ sym (rows-own T t v (P .pos) (P .small) a (le-refl a) (omega (arith, right-gt T t v (P .pos) (P .small)))));
+            (P .same ∙ sym (rows-own T t v (P .pos) (P .small) a (le-refl a)
+            (omega (arith, right-gt T t v (P .pos) (P .small)))));
       }
 
   pub right-on : (v : ℕ) → OnPath T x v → right T v < length T → OnPath T x (right T v)
@@ -134,7 +142,8 @@ module _ (T : List ℕ) (t : Table T) (x : ℕ) where
         pos = pos;
         small = h;
         same = share-down (len T b) (len T v) x (keyAt T (b - 1)) (omega arith) top
-            (P .same ∙ sym (rows-own T t v (P .pos) (P .small) (b - 1) (omega (arith, left-lt T t v (P .pos) (P .small))) (omega arith)))
+            (P .same ∙ sym (rows-own T t v (P .pos) (P .small) (b - 1)
+            (omega (arith, left-lt T t v (P .pos) (P .small))) (omega arith)))
             ∙ neighbours T t b pos h;
       }
 
@@ -178,8 +187,10 @@ module _ (T : List ℕ) (t : Table T) (x : ℕ) where
 
   -- W1: below a node, the split with the least length from the probe f on has its handle at f
   module _ (node upper v : ℕ) (N : OnPath T x node) (P : OnPath T x v) where
-    pub handle-at : let f = probeAt T node upper in suc (len T node) < upper → upper ≤ 64 → f ≤ len T v → len T v < upper
-        → ((m : ℕ) → OnPath T x m → f ≤ len T m → len T v ≤ len T m) → (handleItem T v ≡ prefixItem x f) × (v ≡ root T → ⊥)
+    pub handle-at : let f = probeAt T node upper in suc (len T node) < upper → upper ≤ 64 → f ≤ len T v
+        → len T v < upper
+        → ((m : ℕ) → OnPath T x m → f ≤ len T m → len T v ≤ len T m)
+        → (handleItem T v ≡ prefixItem x f) × (v ≡ root T → ⊥)
     unfolding handleItem handleLen
     handle-at room top reach short least =
         let lo = len T node in
@@ -192,8 +203,14 @@ module _ (T : List ℕ) (t : Table T) (x : ℕ) where
         (λ h. let less = left-len T t v (P .pos) (P .small) h in
         let no : ¬ (f ≤ len T (left T v)) = λ g. (omega (arith, least (left T v) (left-on v P h) g)) in omega arith)
         (λ h. let less = right-len T t v (P .pos) (P .small) h in
-        let no : ¬ (f ≤ len T (right T v)) = λ g. (omega (arith, least (right T v) (right-on v P h) g)) in omega arith) in
+        let no : ¬ (f ≤ len T (right T v)) = λ g. (omega (arith, least (right T v) (right-on v P h) g)) in
+        omega arith) in
         let here : Fattest q (len T v) f = fattest-part q (len T v) F lo-q q-f reach (omega arith) in
-        let same : fattestOf q (len T v) ≡ f = fattest-one (fattest-of q (len T v) (omega arith) (omega arith)) here in
-        let bits : firstBits f (keyAt T v) ≡ firstBits f x = sym (share-down f (len T v) x (keyAt T v) reach (omega arith) (P .same)) in
-        (rw (same, bits), λ e. (let r : len T v ≤ len T node = rw e (root-least T node (N .pos) (N .small)) in omega arith))
+        let same : fattestOf q (len T v) ≡ f =
+        fattest-one (fattest-of q (len T v) (omega arith) (omega arith)) here in
+        let bits : firstBits f (keyAt T v) ≡ firstBits f x =
+        sym (share-down f (len T v) x (keyAt T v) reach (omega arith) (P .same)) in (
+          rw (same, bits),
+          λ e. (let r : len T v ≤ len T node = rw e (root-least T node (N .pos) (N .small)) in
+              omega arith),
+        )

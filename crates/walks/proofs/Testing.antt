@@ -39,7 +39,8 @@ table-by (x ∷ xs) e = more xs (p .0) (q .0) (table-by xs (q .1))
         fits zero h = ltb-true x (2 ^ 64) a
         fits (suc i) h = t .fits i (le-of-suc-le-suc h)
 
-        rises : (zs : List ℕ) → under x zs ≡ true → Table zs → (i : ℕ) → suc i < length (x ∷ zs) → keyAt (x ∷ zs) i < keyAt (x ∷ zs) (suc i)
+        rises : (zs : List ℕ) → under x zs ≡ true → Table zs → (i : ℕ) → suc i < length (x ∷ zs)
+            → keyAt (x ∷ zs) i < keyAt (x ∷ zs) (suc i)
         rises [] b t i h = absurd (omega arith)
         rises (z ∷ zs) b t zero h = ltb-true x z b
         rises (z ∷ zs) b t (suc i) h = t .rises i (le-of-suc-le-suc h)

@@ -1,8 +1,9 @@
--- Document 01, "The walk": from the root to the deepest split whose string x has, over any look-up and stores, and over the table alone.
+-- Document 01, "The walk": from the root to the deepest split whose string x has, over any look-up and stores, and
+-- over the table alone.
 use mathlib.Core.Path.{_≡_}
 use mathlib.Core.Bool.{Bool, cond, _&&_}
 use mathlib.Core.List.{List, [], _∷_}
-use Prim.Native.Nat.{ℕ, zero, suc, _-_, _<_}
+use Prim.Native.Nat.{ℕ, zero, suc, _-_, _≤_, _<_}
 use lib.Dec.{eqb, leb, ltb}
 use lib.ListN.{length, getD}
 use Rattle.words.specs.Keys.{firstBits, bitAt, prefixItem}
@@ -27,8 +28,9 @@ pub record Descent : Type 0 where
   pub probed : List ℕ
   pub node : ℕ
 
--- while a number lies strictly between lower and upper, one probe: `find f` is what the look-up of x's first f bits gives. If it is accepted
--- it is the node from there on, otherwise f is upper. Each turn brings lower and upper nearer, so 64 turns never run out
+-- while a number lies strictly between lower and upper, one probe: `find f` is what the look-up of x's first f bits
+-- gives. If it is accepted it is the node from there on, otherwise f is upper. Each turn brings lower and upper
+-- nearer, so 64 turns never run out (`TurnsSuffice`)
 unfoldable pub descend : List ℕ → ℕ → (ℕ → ℕ) → ℕ → ℕ → ℕ → Descent
 descend T x find zero node upper = record { probed = []; node = node }
 descend T x find (suc turns) node upper =
@@ -38,6 +40,12 @@ descend T x find (suc turns) node upper =
     let rest = descend T x find turns (cond ok m node) (cond ok upper f) in
     let more : Descent = record { probed = f ∷ rest .probed; node = rest .node } in
     cond (ltb (suc (len T node)) upper) more (record { probed = []; node = node })
+
+-- why 64 turns may stand for any number of them: more of them change nothing
+abbrev pub TurnsSuffice : Type 0
+TurnsSuffice =
+    (T : List ℕ) (x : ℕ) (find : ℕ → ℕ) (more node upper : ℕ) → 64 ≤ more → upper ≤ 64
+    → descend T x find more node upper ≡ descend T x find 64 node upper
 
 -- the number of keys before x, or refusal 6
 pub data Answer : Type 0 where
@@ -64,7 +72,12 @@ walk T x find lefts rights =
     let r = lefts 0 in
     let stop : ℕ → Answer → Walk = λ m a. record { probed = []; node = m; answer = a } in
     let d = descend T x find 64 r 64 in
-    let all : Walk = record { probed = d .probed; node = d .node; answer = decide T x (lefts (d .node)) (d .node) (rights (d .node)) } in
+    let all : Walk = record {
+      probed = d .probed;
+      node = d .node;
+      answer =
+          decide T x (lefts (d .node)) (d .node) (rights (d .node));
+    } in
     cond (eqb n 0) (stop 0 (before 0))
     (cond (eqb n 1) (stop 0 (before (cond (leb x (keyAt T 0)) 0 1)))
     (cond (leb 1 r && (ltb r n && leb (len T r) 63))
@@ -73,21 +86,24 @@ walk T x find lefts rights =
 
 -- the walk over a look-up of items and the two stores
 unfoldable pub storeWalk : List ℕ → ℕ → (ℕ → ℕ) → List ℕ → List ℕ → Walk
-storeWalk T x lookUp lefts rights = walk T x (λ f. lookUp (prefixItem x f)) (λ m. getD lefts m 0) (λ m. getD rights m 0)
+storeWalk T x lookUp lefts rights =
+    walk T x (λ f. lookUp (prefixItem x f)) (λ m. getD lefts m 0) (λ m. getD rights m 0)
 
 -- of the splits 1 to m on x's path the one with the least length from f on; 0 if there is none
 unfoldable pub pathTo : List ℕ → ℕ → ℕ → ℕ → ℕ
 pathTo T x f zero = zero
 pathTo T x f (suc m) =
     let v = pathTo T x f m in
-    cond (onPath T x (suc m) && leb f (len T (suc m))) (cond (eqb v 0) (suc m) (cond (ltb (len T (suc m)) (len T v)) (suc m) v)) v
+    cond (onPath T x (suc m) && leb f (len T (suc m)))
+    (cond (eqb v 0) (suc m) (cond (ltb (len T (suc m)) (len T v)) (suc m) v)) v
 
--- the walk that needs no stores: at f it goes to the split on x's path with the least length from f on, if that is below upper
+-- the walk that needs no stores: at f it goes to the split on x's path with the least length from f on, if that is
+-- below upper
 unfoldable pub pathWalk : List ℕ → ℕ → Walk
 pathWalk T x = walk T x (λ f. pathTo T x f (length T - 1)) (leftEntry T) (rightEntry T)
 
 -- what an accepted build leaves: each handle leads to its split, and the entries of the stores are those of the table
 pub record Stored (T : List ℕ) (lookUp : ℕ → ℕ) (lefts rights : List ℕ) : Type 0 where
-  pub handles : (m : ℕ) → 0 < m → m < length T → (m ≡ root T → ⊥) → lookUp (handleItem T m) ≡ m
+  pub handles-lead : (m : ℕ) → 0 < m → m < length T → (m ≡ root T → ⊥) → lookUp (handleItem T m) ≡ m
   pub lefts-are : (m : ℕ) → m < length T → getD lefts m 0 ≡ leftEntry T m
   pub rights-are : (m : ℕ) → m < length T → getD rights m 0 ≡ rightEntry T m

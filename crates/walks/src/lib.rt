@@ -1,1 +1,2 @@
-// The walk of the neighbour search (document 01, "The walk"): definitions and laws over any table and look-up, and no code.
+// The walk of the neighbour search (document 01, "The walk"): definitions and laws over any table and look-up, and no
+// code.

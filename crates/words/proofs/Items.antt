@@ -1,11 +1,12 @@
 -- The laws of `prefixItem`: an odd number, 2 u + 1 for the first l bits u, times 2 ^ (63 - l). Assumes nothing.
 use mathlib.Core.Path.{_≡_, sym, _∙_}
-use Prim.Native.Nat.{ℕ, suc, _+_, _-_, _*_, _/_, _%_, _^_, _≤_, _<_}
+use Prim.Native.Nat.{ℕ, suc, _+_, _-_, _*_, _/_, _%_, _^_, _<_}
 use native.Mathlib.Nat.{eq-of-mul-eq-mul-right, pow-suc, mod-eq-of-lt, le-dest, zero-lt-suc}
 use native.Mathlib.Omega.{arith}
 use lib.Bits.{bitOr, or-step, or-zero-r, or-lt}
 use lib.Pow.{pow-pos, pow-add, pow-lt, shl-lt, shr-lt}
-use Rattle.words.specs.Keys.{firstBits, prefixItem}
+use Rattle.words.specs.Keys.{prefixItem}
+use Rattle.words.specs.Vouched.{ItemTells}
 use Rattle.words.proofs.Sharing.{halve}
 
 -- an odd number times a power of two
@@ -34,11 +35,13 @@ odd-inj u v k j e =
     (same, omega arith)
 
 -- an item tells the length of its prefix and the prefix
-pub item-inj : (x y l m : ℕ) → l < 64 → m < 64 → prefixItem x l ≡ prefixItem y m → (l ≡ m) × (firstBits l x ≡ firstBits l y)
+pub item-inj : ItemTells
 item-inj x y l m hl hm e =
     let k = 63 - l in
     let j = 63 - m in
-    let r = odd-inj (x / 2 ^ suc k) (y / 2 ^ suc j) k j (sym (item-odd x l k (omega arith)) ∙ e ∙ item-odd y m j (omega arith)) in
+    let r =
+    odd-inj (x / 2 ^ suc k) (y / 2 ^ suc j) k j
+    (sym (item-odd x l k (omega arith)) ∙ e ∙ item-odd y m j (omega arith)) in
     let same : l ≡ m = omega arith in
     let len : 64 - l ≡ suc k = omega arith in
     (same, rw len (rw (← (r .0)) at (r .1)))
@@ -57,5 +60,6 @@ item-lt x l hx h =
     rw (← item-or x l h)
     (rw all at (shl-lt (suc l) k (or-lt (suc l) (x / 2 ^ k) 1 (shr-lt (suc l) k (rw all hx)) (pow-lt (zero-lt-suc l)))))
 
-pub item-shifted : (x l : ℕ) → x < 2 ^ 64 → l < 64 → bitOr (x / 2 ^ (63 - l)) 1 * 2 ^ (63 - l) % 2 ^ 64 ≡ prefixItem x l
+pub item-shifted : (x l : ℕ) → x < 2 ^ 64 → l < 64
+    → bitOr (x / 2 ^ (63 - l)) 1 * 2 ^ (63 - l) % 2 ^ 64 ≡ prefixItem x l
 item-shifted x l hx h = rw (item-or x l h) (mod-eq-of-lt (item-lt x l hx h))

@@ -1,8 +1,10 @@
--- A fat binary search makes few probes: where up is a multiple of 2 ^ k and the numbers strictly between are fewer than 2 ^ k, at most k. Assumes nothing.
+-- A fat binary search makes few probes: where up is a multiple of 2 ^ k and the numbers strictly between are fewer
+-- than 2 ^ k, at most k. Assumes nothing.
 use mathlib.Core.Path.{_≡_, refl, sym, _∙_}
 use mathlib.Core.Logic.{_⊎_, inl, inr, ⊎-elim}
 use Prim.Native.Nat.{ℕ, zero, suc, _+_, _-_, _*_, _/_, _%_, _^_, _≤_, _<_, zero-le, suc-le-suc}
-use native.Mathlib.Nat.{le-suc, le-step, add-mod-right, div-mul-le-self, lt-div-mul-add, div-add-mod', lt-of-mul-lt-mul-right}
+use native.Mathlib.Nat.{le-suc, le-step, add-mod-right, div-mul-le-self, lt-div-mul-add, div-add-mod'}
+use native.Mathlib.Nat.{lt-of-mul-lt-mul-right}
 use native.Mathlib.Decide.{decLe}
 use native.Mathlib.Omega.{arith}
 use lib.Count.{leading-length}
@@ -23,7 +25,8 @@ last n k h e =
     let next : n / p ≡ m + 1 = omega arith in
     omega (arith, rw next at whole)
 
-module _ {lo up f : ℕ} (j : ℕ) (F : Fattest lo (up - 1) f) (e : up % 2 ^ suc j ≡ 0) (h : up ≤ lo + 2 ^ suc j) where
+module _ {lo up f : ℕ} (j : ℕ) (F : Fattest lo (up - 1) f) (e : up % 2 ^ suc j ≡ 0)
+    (h : up ≤ lo + 2 ^ suc j) where
   -- fewer than 2 ^ j numbers, or the probe is 2 ^ j below the end
   halving : (up ≤ lo + 2 ^ j) ⊎ (f + 2 ^ j ≡ up)
   halving = elim (decLe up (lo + 2 ^ j)) [ yes l ↦ inl l | no l ↦ inr (probe l) ]
@@ -46,10 +49,12 @@ probes-le {up = up} (suc j) (below f F P) e h =
     (λ q. suc-le-suc (probes-le j P (sym (add-mod-right f (2 ^ j)) ∙ rw q d) (omega arith))) (halving j F e h)
 probes-le {up = up} (suc j) (onward f len F l u P) e h =
     let d = multiple-down up j (suc j) (le-suc j) e in
-    ⊎-elim (λ k. le-step (probes-le j (onward f len F l u P) d k)) (λ q. suc-le-suc (probes-le j P d (omega arith))) (halving j F e h)
+    ⊎-elim (λ k. le-step (probes-le j (onward f len F l u P) d k))
+    (λ q. suc-le-suc (probes-le j P d (omega arith))) (halving j F e h)
 
 -- a search for a length from L to 64 makes at most as many probes as 63 - L has bits, and at most 6
-pub probes-from : {n : ℕ} (L : ℕ) → L < 64 → Probes L 64 n → (n ≤ binaryDigits (63 - L)) × (binaryDigits (63 - L) ≤ 6)
+pub probes-from : {n : ℕ} (L : ℕ) → L < 64 → Probes L 64 n
+    → (n ≤ binaryDigits (63 - L)) × (binaryDigits (63 - L) ≤ 6)
 probes-from L h P =
     let t = leading-length 64 (63 - L) (omega arith) in
     let k = t .0 in

@@ -1,7 +1,9 @@
 -- Remainders by m from products with its reciprocal r. W is 2 ^ 64, or any number. Assumes nothing.
 use mathlib.Core.Path.{_≡_, sym, ap, _∙_}
 use Prim.Native.Nat.{ℕ, suc, _+_, _-_, _*_, _/_, _%_, _^_, _≤_, _<_}
-use native.Mathlib.Nat.{le-of-lt, mul-le-mul-left, mul-le-mul-right, mul-lt-mul-of-pos-right, le-of-mul-le-mul-right, lt-of-mul-lt-mul-right, div-mul-le-self, lt-div-mul-add, div-add-mod', div-eq-of-lt-le, mod-lt, mod-eq-of-lt, mul-add-mod-self-right, mul-comm, add-mul}
+use native.Mathlib.Nat.{le-of-lt, mul-le-mul-left, mul-le-mul-right, mul-lt-mul-of-pos-right, le-of-mul-le-mul-right}
+use native.Mathlib.Nat.{lt-of-mul-lt-mul-right, div-mul-le-self, lt-div-mul-add, div-add-mod', div-eq-of-lt-le}
+use native.Mathlib.Nat.{mod-lt, mod-eq-of-lt, mul-add-mod-self-right, mul-comm, add-mul}
 use native.Mathlib.Decide.{decLe}
 use native.Mathlib.Omega.{arith}
 use mir.Syntax.{w64}
@@ -13,7 +15,8 @@ left-over : {h m : ℕ} (q s : ℕ) → h ≡ q * m + s → s < m → s ≡ h % 
 left-over {m = m} q s e l = sym (rw e (mul-add-mod-self-right q m s ∙ mod-eq-of-lt l))
 
 -- d is what is left without m, once too often where it wraps: then the highest bit is set, and m is given back
-given-back : (m left d : ℕ) → m ≤ 2 ^ 63 → d < 2 ^ 64 → (d + m) % 2 ^ 64 ≡ left → left < m + m → (d + d / 2 ^ 63 * m) % 2 ^ 64 ≡ left % m
+given-back : (m left d : ℕ) → m ≤ 2 ^ 63 → d < 2 ^ 64 → (d + m) % 2 ^ 64 ≡ left → left < m + m
+    → (d + d / 2 ^ 63 * m) % 2 ^ 64 ≡ left % m
 given-back m left d half word e less =
     elim (decLe m left) [
       | yes more ↦
@@ -27,7 +30,8 @@ given-back m left d half word e less =
     ]
 
 -- so h without q times m, where q is the quotient or one less
-pub corrected : (h m q d : ℕ) → q * m ≤ h → h < q * m + (m + m) → m ≤ 2 ^ 63 → d < 2 ^ 64 → (d + m) % 2 ^ 64 ≡ h - q * m
+pub corrected : (h m q d : ℕ) → q * m ≤ h → h < q * m + (m + m) → m ≤ 2 ^ 63 → d < 2 ^ 64
+    → (d + m) % 2 ^ 64 ≡ h - q * m
     → (d + d / 2 ^ 63 * m) % 2 ^ 64 ≡ h % m
 corrected h m q d under over half word e =
     let whole : q * m + (h - q * m) ≡ h = omega arith in
@@ -57,15 +61,18 @@ module _ (W m r : ℕ) (some : 0 < W) (within : r * m < W) (most : W ≤ r * m +
       let last : h * m < W * m = mul-lt-mul-of-pos-right small pos in
       lt-of-mul-lt-mul-right W (omega (arith, simp sort at low, simp sort at up, simp sort at last))
 
-  -- the low word of x * (r + 1) is the fraction x / m in units of 1 / W, and a little more; times m it gives the remainder
+  -- the low word of x * (r + 1) is the fraction x / m in units of 1 / W, and a little more; times m it gives the
+  -- remainder
   of-parts : (q s : ℕ) → s < m → (q * m + s) * m < W → (q * m + s) * (r + 1) % W * m / W ≡ s
   of-parts q s below small =
       let x = q * m + s in
       let e : ℕ = r * m + m - W in
       let low = q * e + s * (r + 1) in
       let over : r * m + m ≡ W + e = omega arith in
-      let product : x * (r + 1) ≡ q * W + low = simp sort (omega (arith, simp sort at (ap (λ (n : ℕ). q * n) over))) in
-      let scaled : low * m ≡ x * e + s * W = simp sort (omega (arith, simp sort at (ap (λ (n : ℕ). s * n) over))) in
+      let product : x * (r + 1) ≡ q * W + low =
+      simp sort (omega (arith, simp sort at (ap (λ (n : ℕ). q * n) over))) in
+      let scaled : low * m ≡ x * e + s * W =
+      simp sort (omega (arith, simp sort at (ap (λ (n : ℕ). s * n) over))) in
       let little : x * e ≤ x * m = mul-le-mul-left x (omega arith) in
       let less : low * m < (s + 1) * W = omega (arith, add-mul s 1 W) in
       let fits : low < W = lt-of-mul-lt-mul-right m (omega (arith, mul-le-mul-right W below, mul-comm m W)) in

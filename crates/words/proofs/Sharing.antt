@@ -1,14 +1,15 @@
 -- The laws of `sharedBits`. Assumes nothing.
 use mathlib.Core.Path.{_≡_, sym, _∙_}
 use mathlib.Core.Logic.{_↔_}
-use Prim.Native.Nat.{ℕ, suc, _+_, _-_, _*_, _/_, _%_, _^_, _≤_, _<_, min}
+use Prim.Native.Nat.{ℕ, suc, _+_, _-_, _*_, _/_, _^_, _≤_, _<_, min}
 use native.Mathlib.Nat.{le-refl, le-of-lt, div-eq-of-lt, div-lt-iff-lt-mul, lt-of-lt-of-le}
 use native.Mathlib.Numerals.{add-one}
 use native.Mathlib.Omega.{arith}
 use lib.Bits.{bitXor, xor-add-and, and-le-l, and-le-r, xor-self, xor-shr, xor-lt}
 use lib.Count.{leadingZeros, leading-le, leading-length}
 use lib.Pow.{pow-pos, pow-mono, shr-shr, shr-mono}
-use Rattle.words.specs.Keys.{firstBits, bitAt, sharedBits}
+use Rattle.words.specs.Keys.{bitAt, sharedBits}
+use Rattle.words.specs.Vouched.{SharedIff}
 
 -- two numbers are equal where their xor is 0
 xor-zero : (a b : ℕ) → bitXor a b ≡ 0 → a ≡ b
@@ -21,7 +22,8 @@ leading-iff L k x e hx =
       (λ h. div-eq-of-lt (lt-of-lt-of-le (n .2) (pow-mono (omega arith)))),
       (λ z.
           let small : x < 1 * 2 ^ k = div-lt-iff-lt-mul (pow-pos k) .0 (omega arith) in
-          let no-more : ¬ (leadingZeros 64 x < L) = λ g. (let big : 2 ^ suc k ≤ 2 ^ (n .0) = pow-mono (omega arith) in omega arith) in
+          let no-more : ¬ (leadingZeros 64 x < L) =
+          λ g. (let big : 2 ^ suc k ≤ 2 ^ (n .0) = pow-mono (omega arith) in omega arith) in
           omega arith),
     )
 
@@ -39,29 +41,35 @@ module _ (a b : ℕ) (ha : a < 2 ^ 64) (hb : b < 2 ^ 64) where
       let law = leading-iff L k (bitXor a b) e (xor-lt 64 a b ha hb) in
       ((λ h. xor-zero _ _ (sym (xor-shr a b k) ∙ law .0 h)), (λ z. law .1 (xor-shr a b k ∙ rw z (xor-self (b / 2 ^ k)))))
 
-  pub shared-iff : (L : ℕ) → L ≤ 64 → (L ≤ sharedBits a b) ↔ (firstBits L a ≡ firstBits L b)
-  shared-iff L h = shared-at L (64 - L) (omega arith)
+pub shared-iff : SharedIff
+shared-iff a b ha hb L h = shared-at a b ha hb L (64 - L) (omega arith)
 
-  module _ (less : a < b) where
-    pub shared-lt : sharedBits a b < 64
-    shared-lt = let no : ¬ (64 ≤ sharedBits a b) = λ g. (let e = shared-iff 64 (le-refl 64) .0 g in omega arith) in omega arith
+module _ (a b : ℕ) (ha : a < 2 ^ 64) (hb : b < 2 ^ 64) (less : a < b) where
+  pub shared-lt : sharedBits a b < 64
+  shared-lt =
+      let no : ¬ (64 ≤ sharedBits a b) =
+      λ g. (let e = shared-at a b ha hb 64 0 (omega arith) .0 g in omega arith) in
+      omega arith
 
-    -- the smaller and the larger of two keys are the same above digit k and part there
-    pub parting : (k : ℕ) → sharedBits a b + suc k ≡ 64 → (a / 2 ^ suc k ≡ b / 2 ^ suc k) × (a / 2 ^ k < b / 2 ^ k)
-    parting k e =
-        let s = sharedBits a b in
-        let apart : ¬ (a / 2 ^ k ≡ b / 2 ^ k) = λ z. (let g = shared-at (suc s) k (omega arith) .1 z in omega arith) in
-        (shared-at s (suc k) e .0 (le-refl s), omega (arith, shr-mono k (le-of-lt less)))
+  -- the smaller and the larger of two keys are the same above digit k and part there
+  pub parting : (k : ℕ) → sharedBits a b + suc k ≡ 64
+      → (a / 2 ^ suc k ≡ b / 2 ^ suc k) × (a / 2 ^ k < b / 2 ^ k)
+  parting k e =
+      let s = sharedBits a b in
+      let apart : ¬ (a / 2 ^ k ≡ b / 2 ^ k) =
+      λ z. (let g = shared-at a b ha hb (suc s) k (omega arith) .1 z in omega arith) in
+      (shared-at a b ha hb s (suc k) e .0 (le-refl s), omega (arith, shr-mono k (le-of-lt less)))
 
-    -- the first bit that they do not share is 0 in the smaller and 1 in the larger
-    pub parting-bits : (bitAt (sharedBits a b) a ≡ 0) × (bitAt (sharedBits a b) b ≡ 1)
-    parting-bits =
-        let k = 63 - sharedBits a b in
-        let p = parting k (omega (arith, shared-lt)) in
-        omega (arith, halve a k, halve b k)
+  -- the first bit that they do not share is 0 in the smaller and 1 in the larger
+  pub parting-bits : (bitAt (sharedBits a b) a ≡ 0) × (bitAt (sharedBits a b) b ≡ 1)
+  parting-bits =
+      let k = 63 - sharedBits a b in
+      let p = parting k (omega (arith, shared-lt)) in
+      omega (arith, halve a k, halve b k)
 
 -- of three keys in order, the outer two share what both neighbours share
-pub shared-min : (a b c : ℕ) → a ≤ b → b ≤ c → c < 2 ^ 64 → sharedBits a c ≡ min (sharedBits a b) (sharedBits b c)
+pub shared-min : (a b c : ℕ) → a ≤ b → b ≤ c → c < 2 ^ 64
+    → sharedBits a c ≡ min (sharedBits a b) (sharedBits b c)
 shared-min a b c h l hc =
     let ha : a < 2 ^ 64 = omega arith in
     let hb : b < 2 ^ 64 = omega arith in

@@ -1,11 +1,12 @@
 -- The 2-fattest number of a range, and the probes of a fat search.
 use mathlib.Core.Path.{_≡_}
 use mathlib.Core.Bool.{cond}
-use Prim.Native.Nat.{ℕ, zero, suc, _+_, _-_, _*_, _/_, _%_, _^_, _≤_, _<_}
+use Prim.Native.Nat.{ℕ, zero, suc, _-_, _*_, _/_, _%_, _^_, _≤_, _<_}
 use lib.Dec.{ltb}
 use lib.Count.{leadingZeros}
 
--- f is the 2-fattest number with a < f ≤ b, the one divisible by the highest power of two: no other number there is divisible by that power
+-- f is the 2-fattest number with a < f ≤ b, the one divisible by the highest power of two: no other number there is
+-- divisible by that power
 pub record Fattest (a b f : ℕ) : Type 0 where
   pub above : a < f
   pub within : f ≤ b
@@ -26,12 +27,13 @@ fattestFrom (suc k) a b = cond (ltb a (lastMultiple (suc k) b)) (lastMultiple (s
 abbrev pub fattestOf : ℕ → ℕ → ℕ
 fattestOf a b = fattestFrom 6 a b
 
--- a search over the numbers strictly between lo and up can make n probes: each at the 2-fattest number f there, after which it goes on
--- below f, or above some number from f on
+-- a search over the numbers strictly between lo and up can make n probes: each at the 2-fattest number f there, after
+-- which it goes on below f, or above some number from f on
 pub data Probes : ℕ → ℕ → ℕ → Type 0 where
   done : {lo up : ℕ} → Probes lo up 0
   below : {lo up n : ℕ} (f : ℕ) → Fattest lo (up - 1) f → Probes lo f n → Probes lo up (suc n)
-  onward : {lo up n : ℕ} (f len : ℕ) → Fattest lo (up - 1) f → f ≤ len → len < up → Probes len up n → Probes lo up (suc n)
+  onward : {lo up n : ℕ} (f len : ℕ) → Fattest lo (up - 1) f → f ≤ len → len < up → Probes len up n
+      → Probes lo up (suc n)
 
 -- how many binary digits a number below 2 ^ 64 has: none for 0
 abbrev pub binaryDigits : ℕ → ℕ

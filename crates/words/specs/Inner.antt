@@ -1,5 +1,5 @@
--- What only inner functions' contracts need: the hash of an item in two steps, so that a build mixes its seed once, and reciprocals, so that it
--- divides once for a map.
+-- What only inner functions' contracts need: the hash of an item in two steps, so that a build mixes its seed once,
+-- and reciprocals, so that it divides once for a map.
 use Prim.Native.Nat.{ℕ, _+_, _*_, _%_, _^_, _≤_, _<_}
 use Rattle.words.specs.Mix.{mixOf}
 

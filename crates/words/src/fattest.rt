@@ -2,7 +2,8 @@
 ghost use Prim.Native.Nat.{_≤_, _<_};
 ghost use Rattle.words.specs.Fat.{Fattest};
 
-// The number with a < r <= b that is divisible by the highest power of two, by trial: the largest power of which a multiple lies there.
+// The number with a < r <= b that is divisible by the highest power of two, by trial: the largest power of which a
+// multiple lies there.
 pub fn fattest(a: u64, b: u64) -> u64
     requires { ⌜ (a < b) × (b ≤ 64) ⌝ }
     ensures { λ r. ⌜ Fattest a b r ⌝ }

@@ -10,7 +10,8 @@ pub fn shared_bits(a: u64, b: u64) -> u32
     u64::leading_zeros(a ^ b)
 }
 
-// The first l bits of x, then one 1 bit, then zeros. No shift is by 64: the shortest prefix keeps its mark in the highest bit.
+// The first l bits of x, then one 1 bit, then zeros. No shift is by 64: the shortest prefix keeps its mark in the
+// highest bit.
 pub fn prefix_item(x: u64, l: u32) -> u64
     requires { ⌜ l < 64 ⌝ }
     ensures { λ r. ⌜ r ≡ prefixItem x l ⌝ }

@@ -4,7 +4,7 @@ use Rattle.cells.proofs.look_up.Statement.{statement}
 use Rattle.cells.proofs.look_up.Tie as tie
 
 returns : tie.Need-returns
-returns c = cc
+returns c = rw (c .before .before .segment-size .ensures .0, c .before .item-hash .ensures) at (c .value-of .ensures)
 
 pub look-up-spec : {M : Type 1} → statement M
 look-up-spec =

@@ -12,7 +12,8 @@ split : (c : tie.After-split-at) → let a = c .before .before .before .before .
 split c =
     let s = c .before .before .before .before in
     c .split-at .ensures
-    ∙ split-beside (s .args .b) (s .args .keys .now) (s .args .left .now) (s .args .right .now) (s .pre .0) (s .args .i) (s .pre .1)
+    ∙ split-beside (s .args .b) (s .args .keys .now) (s .args .left .now) (s .args .right .now) (s .pre .0)
+    (s .args .i) (s .pre .1)
 
 split-at-requires : tie.Need-split-at-requires
 split-at-requires c κs =
@@ -23,7 +24,10 @@ split-at-requires c κs =
 handle-item-requires : tie.Need-handle-item-requires
 handle-item-requires c κs =
     let s = c .before .before .before .before in
-    rw (split c) (split-bounded (s .args .b) (s .args .keys .now) (s .args .left .now) (s .args .right .now) (s .pre .0) (s .args .i) (s .pre .1))
+    let bounded =
+    split-bounded (s .args .b) (s .args .keys .now) (s .args .left .now) (s .args .right .now) (s .pre .0)
+    (s .args .i) (s .pre .1) in
+    rw (split c) bounded
 
 returns : tie.Need-returns
 returns c = rw (← (split (c .before))) (c .handle-item .ensures)

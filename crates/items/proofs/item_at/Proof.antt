@@ -10,10 +10,12 @@ use Rattle.items.proofs.item_at.Statement.{statement}
 use Rattle.items.proofs.item_at.Tie as tie
 
 mul-result : tie.Need-mul-result
-mul-result c = let k = asked-keys (c .enum-told .given .1) (c .before .before .before .before .before .pre) in omega arith
+mul-result c =
+    let k = asked-keys (c .enum-told .given .1) (c .before .before .before .before .before .pre) in omega arith
 
 shared-slice-read-result : tie.Need-shared-slice-read-result
-shared-slice-read-result c = asked-keys (c .before .enum-told .given .1) (c .before .before .before .before .before .before .pre) .1
+shared-slice-read-result c =
+    asked-keys (c .before .enum-told .given .1) (c .before .before .before .before .before .before .pre) .1
 
 prefix-at-requires : tie.Need-prefix-at-requires
 prefix-at-requires c κs = asked-prefixes (c .enum-told2 .given .1) (c .before .before .before .before .before .pre)
@@ -30,26 +32,19 @@ unfolding itemsOf
 returns-2 c =
     let s = c .before .before .before .before .before .before in
     let is = c .before .enum-told2 .given .1 in
-    rw (is, prefix-is (s .args .b) (s .args .keys .now) (s .args .i) (asked-prefixes is (s .pre) .1)) (c .prefix-at .ensures)
+    rw (is, prefix-is (s .args .b) (s .args .keys .now) (s .args .i) (asked-prefixes is (s .pre) .1))
+    (c .prefix-at .ensures)
 
 returns-3 : tie.Need-returns-3
 unfolding itemsOf
 returns-3 c =
     let s = c .before .before .before .before .before .before in
     let is = c .before .enum-told3 .given .1 in
-    rw (is, handle-is (delimiters (s .args .b) (s .args .keys .now)) (s .args .i) (asked-handles is (s .pre) .1)) (c .handle-at .ensures)
+    rw (is, handle-is (delimiters (s .args .b) (s .args .keys .now)) (s .args .i) (asked-handles is (s .pre) .1))
+    (c .handle-at .ensures)
 
 pub item-at-spec : {M : Type 1} → statement M
 item-at-spec =
     tie.close
-    (tie.spec
-    (λ c. search needs)
-    mul-result
-    shared-slice-read-result
-    (λ c. search needs)
-    prefix-at-requires
-    (λ c. search needs)
-    handle-at-requires
-    returns
-    returns-2
-    returns-3)
+    (tie.spec (λ c. search needs) mul-result shared-slice-read-result (λ c. search needs) prefix-at-requires
+    (λ c. search needs) handle-at-requires returns returns-2 returns-3)

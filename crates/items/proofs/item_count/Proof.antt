@@ -16,7 +16,8 @@ bucket-count-requires c κs =
     (omega arith, k .most, k .few)
 
 delimiter-count-requires : tie.Need-delimiter-count-requires
-delimiter-count-requires c κs = known-handles (c .enum-told3 .given .1) (c .before .before .before .before .before .pre) .bucketed
+delimiter-count-requires c κs =
+    known-handles (c .enum-told3 .given .1) (c .before .before .before .before .before .pre) .bucketed
 
 returns : tie.Need-returns
 unfolding itemsOf
@@ -45,13 +46,5 @@ returns-3 c =
 pub item-count-spec : {M : Type 1} → statement M
 item-count-spec =
     tie.close
-    (tie.spec
-    (λ c. search needs)
-    (λ c. search needs)
-    bucket-count-requires
-    (λ c. search needs)
-    delimiter-count-requires
-    (λ c κs. search needs)
-    returns
-    returns-2
-    returns-3)
+    (tie.spec (λ c. search needs) (λ c. search needs) bucket-count-requires (λ c. search needs)
+    delimiter-count-requires (λ c κs. search needs) returns returns-2 returns-3)

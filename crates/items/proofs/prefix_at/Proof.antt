@@ -1,5 +1,6 @@
 -- `items::prefix_at` meets its contract: the bucket begins inside the table. Assumes nothing.
-use Prim.Native.Nat.{_*_, _<_}
+use Prim.Native.Nat.{_*_, _≤_, _<_}
+use native.Mathlib.Nat.{le-mul-of-pos-right}
 use native.Mathlib.Omega.{arith}
 use borrow.Author.Needs.{needs}
 use lib.ListN.{length}
@@ -10,25 +11,14 @@ use Rattle.items.proofs.prefix_at.Tie as tie
 begins : (c : tie.Start) → c .args .i * c .args .b < length (c .args .keys .now)
 begins c = bucket-begins (length (c .args .keys .now)) (c .args .b) (c .args .i) (omega arith) (c .pre .1)
 
-mul-first : tie.Need-mul-first
-mul-first c = omega (arith, begins (c .before))
-
-mul-prefix-item : tie.Need-mul-prefix-item
-mul-prefix-item c = omega (arith, begins (c .before))
-
-shared-slice-read-prefix-item : tie.Need-shared-slice-read-prefix-item
-shared-slice-read-prefix-item c = begins (c .before .before)
-
-returns : tie.Need-returns
-returns c = cc
+-- the bucket's number is no larger than its first row
+bucket : (c : tie.Start) → c .args .i ≤ c .args .i * c .args .b
+bucket c = le-mul-of-pos-right (c .args .i) (omega arith)
 
 pub prefix-at-spec : {M : Type 1} → statement M
 prefix-at-spec =
     tie.close
-    (tie.spec
-    mul-first
-    mul-prefix-item
-    shared-slice-read-prefix-item
-    (λ c κs. search needs)
-    (λ c κs. search needs)
-    returns)
+    (tie.spec (λ c. omega (arith, begins (c .before)))
+    (λ c. omega (arith, begins (c .before), bucket (c .before)))
+    (λ c. omega (arith, begins (c .before .before), bucket (c .before .before))) (λ c κs. search needs)
+    (λ c κs. search needs) (λ c. cc))

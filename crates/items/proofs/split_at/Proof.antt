@@ -3,8 +3,5 @@ use borrow.Author.Needs.{needs}
 use Rattle.items.proofs.split_at.Statement.{statement}
 use Rattle.items.proofs.split_at.Tie as tie
 
-returns : tie.Need-returns
-returns c = cc
-
 pub split-at-spec : {M : Type 1} → statement M
-split-at-spec = tie.close (tie.spec (λ c κs. search needs) (λ c κs. search needs) returns)
+split-at-spec = tie.close (tie.spec (λ c κs. search needs) (λ c κs. search needs) (λ c. cc))

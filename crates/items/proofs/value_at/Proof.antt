@@ -27,7 +27,9 @@ split : (c : tie.After-split-at) → let a = c .before .before .before .before .
 split c =
     let s = c .before .before .before .before .before .before in
     let k = asked-handles (c .before .enum-told3 .given .1) (s .pre) in
-    c .split-at .ensures ∙ split-beside (s .args .b) (s .args .keys .now) (s .args .left .now) (s .args .right .now) (k .0) (s .args .i) (k .1)
+    c .split-at .ensures
+    ∙ split-beside (s .args .b) (s .args .keys .now) (s .args .left .now) (s .args .right .now) (k .0) (s .args .i)
+    (k .1)
 
 split-at-requires : tie.Need-split-at-requires
 split-at-requires c κs =
@@ -67,14 +69,5 @@ returns-3 c =
 pub value-at-spec : {M : Type 1} → statement M
 value-at-spec =
     tie.close
-    (tie.spec
-    (λ c. search needs)
-    key-value-requires
-    (λ c. search needs)
-    cast-result
-    (λ c. search needs)
-    split-at-requires
-    cast-result-2
-    returns
-    returns-2
-    returns-3)
+    (tie.spec (λ c. search needs) key-value-requires (λ c. search needs) cast-result (λ c. search needs)
+    split-at-requires cast-result-2 returns returns-2 returns-3)

@@ -1,5 +1,5 @@
--- What the lent work holds: for each of `cap` cells the number of items there and the xor of their numbers, then for each item a mark of the
--- cell that it is peeled at, then the items in the order of their turns.
+-- What the lent work holds: for each of `cap` cells the number of items there and the xor of their numbers, then for
+-- each item a mark of the cell that it is peeled at, then the items in the order of their turns.
 use mathlib.Core.Path.{_≡_}
 use mathlib.Core.Bool.{Bool, cond}
 use mathlib.Core.List.{List}
@@ -35,8 +35,14 @@ pub record Put (e : ℕ → ℕ → ℕ) (cap i : ℕ) (a b : List ℕ) : Type 0
   pub xor : (c : ℕ) → c < cap → getD b (cap + c) 0 ≡ xorIf (touchb e i c) i (getD a (cap + c) 0)
   pub rest : (k : ℕ) → cap + cap ≤ k → getD b k 0 ≡ getD a k 0
 
+-- item i's three cells rise, and lie below cap
+pub record Spread (e : ℕ → ℕ → ℕ) (cap i : ℕ) : Type 0 where
+  pub first : e 0 i < e 1 i
+  pub second : e 1 i < e 2 i
+  pub third : e 2 i < cap
+
 -- w holds at each cell c how many of the set `s c` there are and the xor of their numbers
-pub record Holds (t cap : ℕ) (s : ℕ → ℕ → Bool) (w : List ℕ) : Type 0 where
+pub record CellsHold (t cap : ℕ) (s : ℕ → ℕ → Bool) (w : List ℕ) : Type 0 where
   pub count : (c : ℕ) → c < cap → getD w c 0 ≡ sizeOf (s c) t
   pub xor : (c : ℕ) → c < cap → getD w (cap + c) 0 ≡ xorOf (s c) t
 
@@ -63,7 +69,7 @@ turnCell cap t w p = mark cap w (turnItem cap t w p) - 1
 -- n items have their turns, and the first q of them are taken out: w says which, where, and what is left
 pub record Peeled (e : ℕ → ℕ → ℕ) (t cap : ℕ) (w : List ℕ) (q n : ℕ) : Type 0 where
   pub order : Peeling e t (turnItem cap t w) (turnCell cap t w) n
-  pub holds : Holds t cap (still e (turnItem cap t w) q) w
+  pub holds : CellsHold t cap (still e (turnItem cap t w) q) w
   pub marks : (i : ℕ) → i < t → eqb (mark cap w i) 0 ≡ live (turnItem cap t w) n i
   pub behind : q ≤ n
 
@@ -84,9 +90,9 @@ pub record Tryable (cap t : ℕ) (w : List ℕ) (n c : ℕ) : Type 0 where
   pub items : (k : ℕ) → k < cap → getD w k 0 ≡ 1 → getD w (cap + k) 0 < t
   pub room : getD w c 0 ≡ 1 → mark cap w (getD w (cap + c) 0) ≡ 0 → n < t
 
--- cell c was tried: w with n turns given became w′ with r. Whatever cells the items touch and however many are taken out, w′ says of r
--- turns what w said of n
-pub record Tried (cap t c : ℕ) (w : List ℕ) (n : ℕ) (w′ : List ℕ) (r : ℕ) : Type 0 where
+-- cell c was tried: w with n turns given became w′ with r. Whatever cells the items touch and however many are taken
+-- out, w′ says of r turns what w said of n
+pub record CellTried (cap t c : ℕ) (w : List ℕ) (n : ℕ) (w′ : List ℕ) (r : ℕ) : Type 0 where
   pub peeled : (e : ℕ → ℕ → ℕ) (q : ℕ) → Peeled e t cap w q n → Peeled e t cap w′ q r
   pub here : Seen cap w′ c
   pub kept : (k : ℕ) → k < cap → Seen cap w k → Seen cap w′ k

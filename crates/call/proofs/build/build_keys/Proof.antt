@@ -18,10 +18,4 @@ returns c = c .before .before .before .before .build .ensures
 pub build-keys-spec : {M : Type 1} → statement M
 build-keys-spec =
     tie.close
-    (tie.spec
-    (λ c. search needs)
-    (λ c. search needs)
-    build-requires
-    (λ c. search needs)
-    (λ c. search needs)
-    returns)
+    (tie.spec (λ c. search needs) (λ c. search needs) build-requires (λ c. search needs) (λ c. search needs) returns)

@@ -1,6 +1,4 @@
 -- `call::build::build_maps` meets its contract: the builds of the two maps, put together. Assumes nothing.
-use mathlib.Core.Path.{_≡_}
-use native.Mathlib.Omega.{arith}
 use borrow.Author.Needs.{needs}
 use Rattle.call.proofs.Joining.{jammed-first, jammed-second, both-built}
 use Rattle.call.proofs.build.build_maps.Statement.{statement}
@@ -10,9 +8,7 @@ returns : tie.Need-returns
 returns c =
     let k = c .before .before .before .before .before .before .before .before .before in
     let s = k .before .before .before .before .before .before .before in
-    jammed-first (s .args .keys .now) (s .args .b) (s .args .seed1) (s .args .seed2) (s .args .cells .now) (s .args .work .now) (s .pre)
-    (k .build-keys .last .1 .1 .1 .0) (k .build-keys .last .1 .1 .1 .1 .0) (k .build-keys .result) (k .build-keys .ensures)
-    (c .before .before .before .before .if1 .taken) (c .before .before .clear .last .0)
+    jammed-first (s .pre) (k .build-keys .ensures) (c .before .before .before .before .if1 .taken)
     (rw (k .before .before .before .call-cells .ensures) at (c .before .before .clear .ensures))
 
 returns-2 : tie.Need-returns-2
@@ -21,10 +17,8 @@ returns-2 c =
     let e = p .before .before .before in
     let k = e .before .before .before .before .before in
     let s = k .before .before .before .before .before .before .before in
-    jammed-second (s .args .keys .now) (s .args .b) (s .args .seed1) (s .args .seed2) (s .args .cells .now) (s .args .work .now) (s .pre)
-    (k .build-keys .last .1 .1 .1 .0) (k .build-keys .last .1 .1 .1 .1 .0) (k .build-keys .result) (k .build-keys .ensures) (omega (arith, e .if1 .left))
-    (p .build-prefixes .last .1 .1 .1 .0) (p .build-prefixes .last .1 .1 .1 .1 .0) (p .build-prefixes .result) (p .build-prefixes .ensures)
-    (c .before .before .before .before .if2 .taken) (c .before .before .clear2 .last .0)
+    jammed-second (s .pre) (k .build-keys .ensures) (e .if1 .left) (p .build-prefixes .ensures)
+    (c .before .before .before .before .if2 .taken)
     (rw (k .before .before .before .call-cells .ensures) at (c .before .before .clear2 .ensures))
 
 returns-3 : tie.Need-returns-3
@@ -33,26 +27,11 @@ returns-3 c =
     let e = p .before .before .before in
     let k = e .before .before .before .before .before in
     let s = k .before .before .before .before .before .before .before in
-    both-built (s .args .keys .now) (s .args .b) (s .args .seed1) (s .args .seed2) (s .args .cells .now) (s .args .work .now) (s .pre)
-    (k .build-keys .last .1 .1 .1 .0) (k .build-keys .last .1 .1 .1 .1 .0) (k .build-keys .result) (k .build-keys .ensures) (omega (arith, e .if1 .left))
-    (p .build-prefixes .last .1 .1 .1 .0) (p .build-prefixes .last .1 .1 .1 .1 .0) (p .build-prefixes .result) (p .build-prefixes .ensures)
-    (omega (arith, c .if2 .left))
+    both-built (s .pre) (k .build-keys .ensures) (e .if1 .left) (p .build-prefixes .ensures) (c .if2 .left)
 
 pub build-maps-spec : {M : Type 1} → statement M
 build-maps-spec =
     tie.close
-    (tie.spec
-    (λ c κs. search needs)
-    (λ c κs. search needs)
-    (λ c κs. search needs)
-    (λ c. search needs)
-    (λ c. search needs)
-    returns
-    (λ c κs. search needs)
-    (λ c κs. search needs)
-    (λ c. search needs)
-    (λ c. search needs)
-    returns-2
-    (λ c. search needs)
-    (λ c. search needs)
-    returns-3)
+    (tie.spec (λ c κs. search needs) (λ c κs. search needs) (λ c κs. search needs) (λ c. search needs)
+    (λ c. search needs) returns (λ c κs. search needs) (λ c κs. search needs) (λ c. search needs) (λ c. search needs)
+    returns-2 (λ c. search needs) (λ c. search needs) returns-3)

@@ -7,4 +7,9 @@ returns : tie.Need-returns
 returns c = cc
 
 pub plain-spec : {M : Type 1} → statement M
-plain-spec = tie.close (tie.spec (λ c. search needs) (λ c. search needs) (λ c. search needs) returns (λ c. search needs) (λ c. search needs))
+plain-spec =
+    tie.close
+    (tie.spec
+    (λ c. search needs) (λ c. search needs) (λ c. search needs)
+    returns
+    (λ c. search needs) (λ c. search needs))

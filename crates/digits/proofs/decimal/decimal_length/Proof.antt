@@ -1,4 +1,5 @@
--- `digits::decimal::decimal_length` meets its contract. The loop's invariant: n has k - 1 digits more than m. The measure is m. Assumes nothing.
+-- `digits::decimal::decimal_length` meets its contract. The loop's invariant: n has k - 1 digits more than m. The
+-- measure is m. Assumes nothing.
 use native.Mathlib.Omega.{arith}
 use Prim.Native.Nat.{_≤_, _+_}
 use mathlib.Core.Path.{_≡_, ap}
@@ -14,9 +15,6 @@ Inv-loop n k₀ m₀ k m = (1 ≤ k) × (length (decimalText n) + 1 ≡ length (
 abbrev μ-loop : tie.MeasureT-loop
 μ-loop n k₀ m₀ k m = m
 
-loop-holds : tie.Need-loop-holds Inv-loop μ-loop
-loop-holds c = (omega arith, omega arith)
-
 add-k : tie.Need-add-k Inv-loop μ-loop
 add-k c =
     let l = c .before .loop in
@@ -24,9 +22,6 @@ add-k c =
     let w = text-within 19 (c .before .before .args .n) (omega arith) in
     let t = text-length (l .m) (omega arith) in
     omega arith
-
-loop-less : tie.Need-loop-less Inv-loop μ-loop
-loop-less c = omega arith
 
 loop-again : tie.Need-loop-again Inv-loop μ-loop
 loop-again c =
@@ -45,4 +40,5 @@ returns c =
 
 pub decimal-length-spec : {M : Type 1} → statement M
 decimal-length-spec =
-    tie.close (tie.spec Inv-loop μ-loop loop-holds add-k loop-less loop-again returns)
+    tie.close (tie.spec Inv-loop μ-loop (λ c. (omega arith, omega arith)) add-k
+    (λ c. omega arith) loop-again returns)

@@ -6,27 +6,19 @@ use Rattle.digits.proofs.hex.hex_value.Statement.{statement}
 use Rattle.digits.proofs.hex.hex_value.Tie as tie
 
 returns : tie.Need-returns
-returns c = hexes-none (c .before .before .args .b) (c .before .wide .result) (c .before .wide .ensures) (omega arith) (omega arith)
+returns c = hexes-none _ _ (c .before .wide .ensures) (omega arith) (omega arith)
 
 returns-2 : tie.Need-returns-2
-returns-2 c =
-    let f = c .before .before in
-    hexes-low (f .before .args .b) (f .wide .result) (f .wide .ensures) (omega arith) (omega arith)
+returns-2 c = hexes-low _ _ (c .before .before .wide .ensures) (omega arith) (omega arith)
 
 returns-3 : tie.Need-returns-3
-returns-3 c =
-    let f = c .before .before .before in
-    hexes-none (f .before .args .b) (f .wide .result) (f .wide .ensures) (omega arith) (omega arith)
+returns-3 c = hexes-none _ _ (c .before .before .before .wide .ensures) (omega arith) (omega arith)
 
 returns-4 : tie.Need-returns-4
-returns-4 c =
-    let f = c .before .before .before .before in
-    hexes-high (f .before .args .b) (f .wide .result) (f .wide .ensures) (omega arith) (omega arith)
+returns-4 c = hexes-high _ _ (c .before .before .before .before .wide .ensures) (omega arith) (omega arith)
 
 returns-5 : tie.Need-returns-5
-returns-5 c =
-    let f = c .before .before .before .before in
-    hexes-none (f .before .args .b) (f .wide .result) (f .wide .ensures) (omega arith) (omega arith)
+returns-5 c = hexes-none _ _ (c .before .before .before .before .wide .ensures) (omega arith) (omega arith)
 
 pub hex-value-spec : {M : Type 1} → statement M
 hex-value-spec =

@@ -13,4 +13,9 @@ returns-2 c = sym (glyph-high (c .before .args .d) (c .if1 .left))
 
 pub digit-byte-spec : {M : Type 1} → statement M
 digit-byte-spec =
-    tie.close (tie.spec (λ c. search needs) (λ c. search needs) returns (λ c. search needs) (λ c. search needs) returns-2)
+    tie.close
+    (tie.spec
+    (λ c. search needs) (λ c. search needs)
+    returns
+    (λ c. search needs) (λ c. search needs)
+    returns-2)

@@ -1,5 +1,5 @@
--- `lines::text::expect` meets its contract. The loop's invariant: every byte passed is the text's. The measure is what is left of it. Assumes
--- nothing.
+-- `lines::text::expect` meets its contract. The loop's invariant: every byte passed is the text's. The measure is
+-- what is left of it. Assumes nothing.
 use native.Mathlib.Omega.{arith}
 use borrow.Author.Needs.{needs}
 use Prim.Native.Nat.{ℕ, _≤_, _<_, _-_, _+_}
@@ -24,10 +24,7 @@ returns c = λ rest f. omega arith
 
 returns-2 : tie.Need-returns-2 Inv-loop μ-loop
 unfolding Expects
-returns-2 c =
-    λ rest f.
-    let a = c .before .before .args in
-    omega (arith, from-length (a .s .now) (a .i) (a .t .now) rest f)
+returns-2 c = λ rest f. omega (arith, from-length _ _ (c .before .before .args .t .now) rest f)
 
 loop-holds : tie.Need-loop-holds Inv-loop μ-loop
 loop-holds c = (omega arith, λ j l. absurd (omega arith))
@@ -37,8 +34,7 @@ unfolding Expects
 returns-3 c =
     λ rest f.
     let l = c .before .before .before .before in
-    let a = l .before .before .before .args in
-    c .if3 .taken (from-at (a .s .now) (a .i) (a .t .now) rest f (l .loop .k) (omega arith))
+    c .if3 .taken (from-at _ _ (l .before .before .before .args .t .now) rest f (l .loop .k) (omega arith))
 
 loop-again : tie.Need-loop-again Inv-loop μ-loop
 loop-again c = (omega arith, below-more _ _ (c .before .before .before .before .loop .inv .1) (c .if3 .left))
@@ -62,12 +58,9 @@ expect-spec =
     (λ c. search needs)
     returns-2
     loop-holds
-    (λ c. search needs)
-    (λ c. search needs)
-    (λ c. search needs)
+    (λ c. search needs) (λ c. search needs) (λ c. search needs)
     returns-3
-    (λ c. search needs)
-    (λ c. search needs)
+    (λ c. search needs) (λ c. search needs)
     loop-again
     (λ c. search needs)
     returns-4)

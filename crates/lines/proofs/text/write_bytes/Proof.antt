@@ -1,5 +1,5 @@
--- `lines::text::write_bytes` meets its contract. The loop's invariant: the bytes passed are put. The measure is what is left of the text.
--- Assumes nothing.
+-- `lines::text::write_bytes` meets its contract. The loop's invariant: the bytes passed are put. The measure is what
+-- is left of the text. Assumes nothing.
 use native.Mathlib.Omega.{arith}
 use borrow.Author.Needs.{needs}
 use Prim.Native.Nat.{ℕ, _≤_, _-_, _+_}
@@ -19,47 +19,33 @@ abbrev μ-loop : tie.MeasureT-loop
 μ-loop out₀ i t k₀ out k = length t - k
 
 -- the length is kept while the bytes are put
-kept : (c : tie.At-loop Inv-loop μ-loop) → let a = c .before .before .before .args in length (c .loop .out) ≡ length (a .out .now)
+kept : (c : tie.At-loop Inv-loop μ-loop)
+    → let a = c .before .before .before .args in length (c .loop .out) ≡ length (a .out .now)
 kept c =
     let a = c .before .before .before .args in
     let l = c .loop in
     ap length (l .inv .1) ∙ placed-length (a .out .now) (a .t .now) (a .i) (l .k) (l .inv .0) (omega arith)
-
-returns : tie.Need-returns Inv-loop μ-loop
-returns c =
-    let a = c .before .args in
-    writes-off (a .t .now) (a .out .now) (a .i) (omega arith)
-
-returns-2 : tie.Need-returns-2 Inv-loop μ-loop
-returns-2 c =
-    let a = c .before .before .args in
-    writes-off (a .t .now) (a .out .now) (a .i) (omega arith)
 
 loop-holds : tie.Need-loop-holds Inv-loop μ-loop
 loop-holds c =
     let a = c .before .before .args in
     (omega arith, sym (placed-none (a .out .now) (a .i)))
 
-slice-write-out : tie.Need-slice-write-out Inv-loop μ-loop
-slice-write-out c = omega (arith, kept (c .before .before))
-
 loop-again : tie.Need-loop-again Inv-loop μ-loop
 loop-again c =
     let a = c .before .before .before .before .before .args in
     let l = c .before .before .loop in
     let put : List ℕ → List ℕ = λ x. set x (a .i + l .k) (getD (a .t .now) (l .k) 0) in
-    (omega arith, ap put (l .inv .1) ∙ placed-step (a .out .now) (a .t .now) (a .i) (l .k) (c .before .loop-test .taken) (omega arith))
-
-same-length : tie.Need-same-length Inv-loop μ-loop
-same-length c = kept (c .before)
+    let step = placed-step (a .out .now) (a .t .now) (a .i) (l .k) (c .before .loop-test .taken) (omega arith) in
+    (omega arith, ap put (l .inv .1) ∙ step)
 
 returns-3 : tie.Need-returns-3 Inv-loop μ-loop
 returns-3 c =
     let a = c .before .before .before .before .args in
     let l = c .before .loop in
     let e : l .k ≡ length (a .t .now) = omega arith in
-    writes-at (a .t .now) (a .out .now) (l .out) (a .i) (a .i + l .k) (omega arith) (omega arith)
-    (l .inv .1 ∙ ap (placed (a .out .now) (a .i)) (ap (λ (n : ℕ). take n (a .t .now)) e ∙ take-length (a .t .now)))
+    let all = ap (λ (n : ℕ). take n (a .t .now)) e ∙ take-length (a .t .now) in
+    writes-at _ _ _ _ _ (omega arith) (omega arith) (l .inv .1 ∙ ap (placed (a .out .now) (a .i)) all)
 
 pub write-bytes-spec : {M : Type 1} → statement M
 write-bytes-spec =
@@ -67,16 +53,14 @@ write-bytes-spec =
     (tie.spec
     Inv-loop
     μ-loop
-    returns
+    (λ c. writes-off _ _ _ (omega arith))
     (λ c. search needs)
-    returns-2
+    (λ c. writes-off _ _ _ (omega arith))
     loop-holds
-    (λ c. search needs)
-    (λ c. search needs)
-    slice-write-out
-    (λ c. search needs)
-    (λ c. search needs)
+    (λ c. search needs) (λ c. search needs)
+    (λ c. omega (arith, kept (c .before .before)))
+    (λ c. search needs) (λ c. search needs)
     loop-again
     (λ c. search needs)
-    same-length
+    (λ c. kept (c .before))
     returns-3)

@@ -1,4 +1,5 @@
--- `neighbour::build::build_stores` meets its contract: the bounds are written, and map 3 is built over them. Assumes nothing.
+-- `neighbour::build::build_stores` meets its contract: the bounds are written, and map 3 is built over them. Assumes
+-- nothing.
 use mathlib.Core.Path.{ap, _∙_}
 use Prim.Native.Nat.{ℕ}
 use native.Mathlib.Omega.{arith}
@@ -33,9 +34,11 @@ build-requires c κs =
       record {
         source =
             rw (e .build-bounds .ensures .0, e .build-bounds .ensures .1)
-            (stores-bounds b keys (s .args .left .now) (s .args .right .now) (s .pre .table) (s .pre .bucketed) (s .pre .leftLong) (s .pre .rightLong));
+            (stores-bounds b keys (s .args .left .now) (s .args .right .now) (s .pre .table) (s .pre .bucketed)
+            (s .pre .leftLong) (s .pre .rightLong));
       },
-      handles-room b keys (s .args .handles .now) (s .args .left .now) (s .args .right .now) (s .args .work .now) (s .pre),
+      handles-room b keys (s .args .handles .now) (s .args .left .now) (s .args .right .now) (s .args .work .now)
+          (s .pre),
     )
 
 returns : tie.Need-returns
@@ -46,10 +49,16 @@ returns c =
     let e = m .before .before .before .before .before .before .before .before .before in
     let s = e .before .before .before .before .before .before .before .before in
     let d = c .before .before .before .before .before .before .before .before .delimiter-count .ensures .0 in
-    stores-jammed (delimiters (s .args .b) (s .args .keys .now)) (s .args .seed3) (s .args .handles .now) (s .args .left .now) (s .args .right .now) (s .args .work .now)
-    (m .build .last .1 .1 .1 .1 .1 .1 .0) (m .build .last .1 .1 .1 .1 .1 .1 .1 .0) (m .build .result) (m .build .ensures) (t .if1 .taken)
-    (e .build-bounds .last .1 .1 .0) (e .build-bounds .last .1 .1 .1 .0) (c .before .before .before .before .before .before .clear .last .0) (c .before .before .clear2 .last .0)
-    (e .build-bounds .ensures .0) (e .build-bounds .ensures .1) (c .before .before .before .before .before .before .clear .ensures ∙ ap (λ (n : ℕ). cleared n (e .build-bounds .last .1 .1 .0)) d) (c .before .before .clear2 .ensures ∙ ap (λ (n : ℕ). cleared n (e .build-bounds .last .1 .1 .1 .0)) d)
+    stores-jammed (delimiters (s .args .b) (s .args .keys .now)) (s .args .seed3) (s .args .handles .now)
+    (s .args .left .now) (s .args .right .now) (s .args .work .now)
+    (m .build .last .1 .1 .1 .1 .1 .1 .0) (m .build .last .1 .1 .1 .1 .1 .1 .1 .0) (m .build .result)
+    (m .build .ensures) (t .if1 .taken)
+    (e .build-bounds .last .1 .1 .0) (e .build-bounds .last .1 .1 .1 .0)
+    (c .before .before .before .before .before .before .clear .last .0) (c .before .before .clear2 .last .0)
+    (e .build-bounds .ensures .0) (e .build-bounds .ensures .1)
+    (c .before .before .before .before .before .before .clear .ensures
+    ∙ ap (λ (n : ℕ). cleared n (e .build-bounds .last .1 .1 .0)) d)
+    (c .before .before .clear2 .ensures ∙ ap (λ (n : ℕ). cleared n (e .build-bounds .last .1 .1 .1 .0)) d)
 
 returns-2 : tie.Need-returns-2
 unfolding itemsOf valuesOf
@@ -57,9 +66,12 @@ returns-2 c =
     let m = c .before .before .before .before .before in
     let e = m .before .before .before .before .before .before .before .before .before in
     let s = e .before .before .before .before .before .before .before .before in
-    stores-filled (delimiters (s .args .b) (s .args .keys .now)) (s .args .seed3) (s .args .handles .now) (s .args .left .now) (s .args .right .now) (s .args .work .now)
-    (m .build .last .1 .1 .1 .1 .1 .1 .0) (m .build .last .1 .1 .1 .1 .1 .1 .1 .0) (m .build .result) (m .build .ensures) (omega (arith, c .if1 .left))
-    (e .build-bounds .last .1 .1 .0) (e .build-bounds .last .1 .1 .1 .0) (e .build-bounds .ensures .0) (e .build-bounds .ensures .1)
+    stores-filled (delimiters (s .args .b) (s .args .keys .now)) (s .args .seed3) (s .args .handles .now)
+    (s .args .left .now) (s .args .right .now) (s .args .work .now)
+    (m .build .last .1 .1 .1 .1 .1 .1 .0) (m .build .last .1 .1 .1 .1 .1 .1 .1 .0) (m .build .result)
+    (m .build .ensures) (omega (arith, c .if1 .left))
+    (e .build-bounds .last .1 .1 .0) (e .build-bounds .last .1 .1 .1 .0) (e .build-bounds .ensures .0)
+    (e .build-bounds .ensures .1)
 
 pub build-stores-spec : {M : Type 1} → statement M
 build-stores-spec =

@@ -5,15 +5,6 @@ use Rattle.rowtext.proofs.Printing.{ask-size}
 use Rattle.rowtext.proofs.printer.ask_length.Statement.{statement}
 use Rattle.rowtext.proofs.printer.ask_length.Tie as tie
 
-add-result : tie.Need-add-result
-add-result c = omega arith
-
-add-result-2 : tie.Need-add-result-2
-add-result-2 c = omega arith
-
-add-result-3 : tie.Need-add-result-3
-add-result-3 c = omega arith
-
 returns : tie.Need-returns
 returns c =
     let a = c .before .before .before .before .before .before .before .args in
@@ -30,14 +21,7 @@ pub ask-length-spec : {M : Type 1} → statement M
 ask-length-spec =
     tie.close
     (tie.spec
-    (λ c. search needs)
-    (λ c κs. search needs)
-    (λ c κs. search needs)
-    add-result
-    (λ c. search needs)
-    (λ c κs. search needs)
-    add-result-2
-    (λ c. search needs)
-    (λ c κs. search needs)
-    add-result-3
+    (λ c. search needs) (λ c κs. search needs) (λ c κs. search needs) (λ c. omega arith)
+    (λ c. search needs) (λ c κs. search needs) (λ c. omega arith)
+    (λ c. search needs) (λ c κs. search needs) (λ c. omega arith)
     returns)

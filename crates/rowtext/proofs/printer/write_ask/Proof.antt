@@ -1,4 +1,5 @@
--- `rowtext::printer::write_ask` meets its contract: in a room for all of them the four lines are put one after the other. Assumes nothing.
+-- `rowtext::printer::write_ask` meets its contract: in a room for all of them the four lines are put one after the
+-- other. Assumes nothing.
 use native.Mathlib.Omega.{arith}
 use borrow.Author.Needs.{needs}
 use Prim.Native.Nat.{_+_, _≤_}
@@ -15,15 +16,12 @@ room : (p : tie.Else2) → let a = p .before .before .before .before .args in
 room p = let n = p .before .ask-length .ensures in omega arith
 
 returns : tie.Need-returns
-returns c =
-    let a = c .before .before .args in
-    writes-off (askText (a .x) (a .call) (a .before) (a .probes)) (a .out .now) (a .i) (omega arith)
+returns c = writes-off _ _ _ (omega arith)
 
 returns-2 : tie.Need-returns-2
 returns-2 c =
-    let a = c .before .before .before .before .args in
     let n = c .before .ask-length .ensures in
-    writes-off (askText (a .x) (a .call) (a .before) (a .probes)) (a .out .now) (a .i) (omega arith)
+    writes-off _ _ _ (omega arith)
 
 returns-3 : tie.Need-returns-3
 returns-3 c =
@@ -34,12 +32,7 @@ returns-3 c =
     let w2 = o2 .before .before .before in
     let o1 = w2 .before .before in
     let w1 = o1 .before .before .before in
-    let p = w1 .before .before .before in
-    let a = p .before .before .before .before .args in
-    four-lines (a .x) (a .call) (a .before) (a .probes)
-    (a .out .now) (w1 .write-line .last .0) (w2 .write-call .last .0) (w3 .write-line2 .last .0) (w4 .write-line3 .last .0)
-    (a .i) (o1 .or .result) (o2 .or2 .result) (o3 .or3 .result)
-    (w1 .write-line .result) (w2 .write-call .result) (w3 .write-line2 .result) (w4 .write-line3 .result) (room p)
+    four-lines _ _ _ _ _ _ _ _ _ _ _ _ _ _ _ _ _ (room (w1 .before .before .before))
     (w1 .write-line .ensures) (o1 .or .ensures) (w2 .write-call .ensures) (o2 .or2 .ensures)
     (w3 .write-line2 .ensures) (o3 .or3 .ensures) (w4 .write-line3 .ensures)
 
@@ -48,18 +41,9 @@ write-ask-spec =
     tie.close
     (tie.spec
     returns
-    (λ c. search needs)
-    (λ c κs. search needs)
+    (λ c. search needs) (λ c κs. search needs)
     returns-2
-    (λ c. search needs)
-    (λ c κs. search needs)
-    (λ c κs. search needs)
-    (λ c κs. search needs)
-    (λ c κs. search needs)
-    (λ c. search needs)
-    (λ c κs. search needs)
-    (λ c κs. search needs)
-    (λ c. search needs)
-    (λ c κs. search needs)
-    (λ c. search needs)
+    (λ c. search needs) (λ c κs. search needs) (λ c κs. search needs) (λ c κs. search needs)
+    (λ c κs. search needs) (λ c. search needs) (λ c κs. search needs) (λ c κs. search needs)
+    (λ c. search needs) (λ c κs. search needs) (λ c. search needs)
     returns-3)

@@ -1,4 +1,5 @@
--- `samples::table::fill` is safe and ends. The loop's invariant: the slice keeps its length. The measure is what is left of it. Assumes nothing.
+-- `samples::table::fill` is safe and ends. The loop's invariant: the slice keeps its length.
+-- The measure is what is left of it. Assumes nothing.
 use mathlib.Core.Path.{_≡_}
 use Prim.Native.Nat.{_-_}
 use native.Mathlib.Omega.{arith}
@@ -8,10 +9,10 @@ use Rattle.samples.proofs.table.fill.Statement.{statement}
 use Rattle.samples.proofs.table.fill.Tie as tie
 
 abbrev Inv-loop : tie.InvT-loop
-Inv-loop sample keys₀ i₀ keys i = length keys ≡ length keys₀
+Inv-loop sample order keys₀ i₀ keys i = length keys ≡ length keys₀
 
 abbrev μ-loop : tie.MeasureT-loop
-μ-loop sample keys₀ i₀ keys i = length keys₀ - i
+μ-loop sample order keys₀ i₀ keys i = length keys₀ - i
 
 slice-write-keys : tie.Need-slice-write-keys Inv-loop μ-loop
 slice-write-keys c = omega arith
@@ -26,6 +27,7 @@ fill-spec =
     Inv-loop
     μ-loop
     (λ c. search needs)
+    (λ c κs. search needs)
     (λ c κs. search needs)
     (λ c. search needs)
     slice-write-keys

@@ -1,5 +1,5 @@
--- `splits::bounds::fill_left` meets its contract. The loop's invariant: the entries from 1 up to m are those of the splits, and the others
--- as they were. The measure is what is left of the rows. Assumes nothing.
+-- `splits::bounds::fill_left` meets its contract. The loop's invariant: the entries from 1 up to m are those of the
+-- splits, and the others as they were. The measure is what is left of the rows. Assumes nothing.
 use mathlib.Core.Path.{_≡_, refl, _∙_}
 use Prim.Native.Nat.{_-_, _≤_}
 use native.Mathlib.Omega.{arith}
@@ -12,7 +12,9 @@ use Rattle.splits.proofs.bounds.fill_left.Statement.{statement}
 use Rattle.splits.proofs.bounds.fill_left.Tie as tie
 
 abbrev Inv-loop : tie.InvT-loop
-Inv-loop keys b n left₀ m₀ left m = (1 ≤ m) × (m ≤ n) × (length left ≡ length left₀) × Wrote 1 m (leftEntry (delimiters b keys)) left₀ left
+Inv-loop keys b n left₀ m₀ left m =
+    (1 ≤ m) × (m ≤ n) × (length left ≡ length left₀) × Wrote 1 m
+    (leftEntry (delimiters b keys)) left₀ left
 
 abbrev μ-loop : tie.MeasureT-loop
 μ-loop keys b n left₀ m₀ left m = n - m
@@ -30,21 +32,6 @@ jump-left-requires c κs =
       record { room = omega arith; entries = i .3 .entries },
     )
 
-cast-left : tie.Need-cast-left Inv-loop μ-loop
-cast-left c = omega arith
-
-mul-left : tie.Need-mul-left Inv-loop μ-loop
-mul-left c = omega arith
-
-slice-write-left : tie.Need-slice-write-left Inv-loop μ-loop
-slice-write-left c = omega arith
-
-add-m : tie.Need-add-m Inv-loop μ-loop
-add-m c = omega arith
-
-loop-less : tie.Need-loop-less Inv-loop μ-loop
-loop-less c = omega arith
-
 loop-again : tie.Need-loop-again Inv-loop μ-loop
 loop-again c =
     let a = c .before .before .before .before .before .before .args in
@@ -53,12 +40,10 @@ loop-again c =
     let j = c .jump-left in (
       omega arith,
       omega arith,
-      length-set (p .left) (p .m) (j .result) ∙ i .2,
-      wrote-up (leftEntry (delimiters (a .b) (a .keys .now))) (a .left .now) (p .left) (p .m) (j .result) (omega arith) (j .ensures .0) 1 (i .0) (i .3),
+      length-set (p .left) (p .m) _ ∙ i .2,
+      wrote-up (leftEntry (delimiters (a .b) (a .keys .now))) (a .left .now) (p .left) (p .m) _
+          (omega arith) (j .ensures .0) 1 (i .0) (i .3),
     )
-
-same-length : tie.Need-same-length Inv-loop μ-loop
-same-length c = c .before .loop .inv .2
 
 returns : tie.Need-returns Inv-loop μ-loop
 returns c =
@@ -69,16 +54,5 @@ returns c =
 pub fill-left-spec : {M : Type 1} → statement M
 fill-left-spec =
     tie.close
-    (tie.spec
-    Inv-loop
-    μ-loop
-    loop-holds
-    jump-left-requires
-    cast-left
-    mul-left
-    slice-write-left
-    add-m
-    loop-less
-    loop-again
-    same-length
-    returns)
+    (tie.spec Inv-loop μ-loop loop-holds jump-left-requires (λ c. omega arith) (λ c. omega arith)
+    (λ c. omega arith) (λ c. omega arith) (λ c. omega arith) loop-again (λ c. c .before .loop .inv .2) returns)

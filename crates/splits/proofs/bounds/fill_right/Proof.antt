@@ -1,5 +1,5 @@
--- `splits::bounds::fill_right` meets its contract. The loop's invariant: the entries from m on are those of the splits, and the others as
--- they were. The measure is m. Assumes nothing.
+-- `splits::bounds::fill_right` meets its contract. The loop's invariant: the entries from m on are those of the
+-- splits, and the others as they were. The measure is m. Assumes nothing.
 use mathlib.Core.Path.{_≡_, refl, _∙_}
 use Prim.Native.Nat.{_+_, _-_, _≤_}
 use native.Mathlib.Omega.{arith}
@@ -12,7 +12,9 @@ use Rattle.splits.proofs.bounds.fill_right.Statement.{statement}
 use Rattle.splits.proofs.bounds.fill_right.Tie as tie
 
 abbrev Inv-loop : tie.InvT-loop
-Inv-loop keys b n right₀ m₀ right m = (1 ≤ m) × (m ≤ n) × (length right ≡ length right₀) × Wrote m n (rightEntry (delimiters b keys)) right₀ right
+Inv-loop keys b n right₀ m₀ right m =
+    (1 ≤ m) × (m ≤ n) × (length right ≡ length right₀) × Wrote m n
+    (rightEntry (delimiters b keys)) right₀ right
 
 abbrev μ-loop : tie.MeasureT-loop
 μ-loop keys b n right₀ m₀ right m = m
@@ -22,29 +24,15 @@ loop-holds c =
     let a = c .before .before .args in
     (omega arith, omega arith, refl, wrote-none (a .n) (rightEntry (delimiters (a .b) (a .keys .now))) (a .right .now))
 
-sub-m : tie.Need-sub-m Inv-loop μ-loop
-sub-m c = omega arith
-
 jump-right-requires : tie.Need-jump-right-requires Inv-loop μ-loop
 jump-right-requires c κs =
     let s = c .before .before .before .before .before in
     let i = c .before .before .loop .inv in (
-      record { table = s .pre .0; split = record { bucketed = s .pre .1 .bucketed; pos = omega arith; small = omega arith } },
+      record
+          { table = s .pre .0; split = record { bucketed = s .pre .1 .bucketed; pos = omega arith; small = omega arith } },
       s .pre .1,
       record { room = omega arith; entries = λ k h g. i .3 .entries k (omega arith) g },
     )
-
-cast-right : tie.Need-cast-right Inv-loop μ-loop
-cast-right c = omega arith
-
-mul-right : tie.Need-mul-right Inv-loop μ-loop
-mul-right c = omega arith
-
-slice-write-right : tie.Need-slice-write-right Inv-loop μ-loop
-slice-write-right c = omega arith
-
-loop-less : tie.Need-loop-less Inv-loop μ-loop
-loop-less c = omega arith
 
 loop-again : tie.Need-loop-again Inv-loop μ-loop
 loop-again c =
@@ -57,12 +45,10 @@ loop-again c =
     let W : Wrote (p .m - 1 + 1) (a .n) entry (a .right .now) (p .right) = rw (← back) (i .3) in (
       omega arith,
       omega arith,
-      length-set (p .right) (p .m - 1) (j .result) ∙ i .2,
-      wrote-down entry (a .right .now) (p .right) (p .m - 1) (j .result) (omega arith) (j .ensures .0) (a .n) (omega arith) W,
+      length-set (p .right) (p .m - 1) _ ∙ i .2,
+      wrote-down entry (a .right .now) (p .right) (p .m - 1) _ (omega arith) (j .ensures .0) (a .n)
+          (omega arith) W,
     )
-
-same-length : tie.Need-same-length Inv-loop μ-loop
-same-length c = c .before .loop .inv .2
 
 returns : tie.Need-returns Inv-loop μ-loop
 returns c =
@@ -73,16 +59,5 @@ returns c =
 pub fill-right-spec : {M : Type 1} → statement M
 fill-right-spec =
     tie.close
-    (tie.spec
-    Inv-loop
-    μ-loop
-    loop-holds
-    sub-m
-    jump-right-requires
-    cast-right
-    mul-right
-    slice-write-right
-    loop-less
-    loop-again
-    same-length
-    returns)
+    (tie.spec Inv-loop μ-loop loop-holds (λ c. omega arith) jump-right-requires (λ c. omega arith)
+    (λ c. omega arith) (λ c. omega arith) (λ c. omega arith) loop-again (λ c. c .before .loop .inv .2) returns)

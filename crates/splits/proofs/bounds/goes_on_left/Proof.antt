@@ -6,13 +6,10 @@ use borrow.Author.Needs.{needs}
 use Rattle.splits.proofs.bounds.goes_on_left.Statement.{statement}
 use Rattle.splits.proofs.bounds.goes_on_left.Tie as tie
 
-returns : tie.Need-returns
-returns c = rw (c .if1 .taken)
-
 returns-2 : tie.Need-returns-2
 returns-2 c =
     let a = c .before .before .before .args in
     rw (c .len-at .ensures) (goes-last (delimiters (a .b) (a .keys .now)) (a .j) (a .l) (omega arith) (omega arith))
 
 pub goes-on-left-spec : {M : Type 1} → statement M
-goes-on-left-spec = tie.close (tie.spec returns (λ c κs. search needs) returns-2)
+goes-on-left-spec = tie.close (tie.spec (λ c. rw (c .if1 .taken)) (λ c κs. search needs) returns-2)

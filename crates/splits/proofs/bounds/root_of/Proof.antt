@@ -1,5 +1,5 @@
--- `splits::bounds::root_of` meets its contract. The loop's invariant: s is the root of the splits below m, with its len. The measure is what is
--- left of the rows. Assumes nothing.
+-- `splits::bounds::root_of` meets its contract. The loop's invariant: s is the root of the splits below m, with its
+-- len. The measure is what is left of the rows. Assumes nothing.
 use mathlib.Core.Path.{_≡_, refl, _∙_}
 use Prim.Native.Nat.{_+_, _-_, _≤_, _<_}
 use native.Mathlib.Omega.{arith}
@@ -13,13 +13,11 @@ use Rattle.splits.proofs.bounds.root_of.Tie as tie
 
 abbrev Inv-loop : tie.InvT-loop
 Inv-loop keys b n s₀ m₀ s m =
-    (0 < m) × (m - 1 ≤ n - 1) × (s .split ≤ m - 1) × (s .split ≡ rootTo (delimiters b keys) (m - 1)) × Measured (delimiters b keys) s
+    (0 < m) × (m - 1 ≤ n - 1) × (s .split ≤ m - 1) ×
+    (s .split ≡ rootTo (delimiters b keys) (m - 1)) × Measured (delimiters b keys) s
 
 abbrev μ-loop : tie.MeasureT-loop
 μ-loop keys b n s₀ m₀ s m = n - m
-
-delimiter-count-requires : tie.Need-delimiter-count-requires Inv-loop μ-loop
-delimiter-count-requires c κs = c .before .pre
 
 loop-holds : tie.Need-loop-holds Inv-loop μ-loop
 unfolding rootTo
@@ -30,12 +28,6 @@ smaller-of-requires c κs =
     let i = c .before .loop .inv in
     (record { bucketed = c .before .before .before .before .pre; pos = omega arith; small = omega arith }, i .4, omega arith)
 
-add-m : tie.Need-add-m Inv-loop μ-loop
-add-m c = omega arith
-
-loop-less : tie.Need-loop-less Inv-loop μ-loop
-loop-less c = omega arith
-
 loop-again : tie.Need-loop-again Inv-loop μ-loop
 loop-again c =
     let a = c .before .before .before .before .before .args in
@@ -43,7 +35,8 @@ loop-again c =
     let m = c .before .before .loop .m in
     let back : m + 1 - 1 ≡ m = omega arith in
     let k = c .smaller-of .ensures in
-    (omega arith, omega arith, omega arith, rw back (k .0 ∙ rw (i .3) (root-more (delimiters (a .b) (a .keys .now)) m (i .0))), k .1)
+    let more = root-more (delimiters (a .b) (a .keys .now)) m (i .0) in
+    (omega arith, omega arith, omega arith, rw back (k .0 ∙ rw (i .3) more), k .1)
 
 returns : tie.Need-returns Inv-loop μ-loop
 returns c =
@@ -55,13 +48,5 @@ returns c =
 pub root-of-spec : {M : Type 1} → statement M
 root-of-spec =
     tie.close
-    (tie.spec
-    Inv-loop
-    μ-loop
-    delimiter-count-requires
-    loop-holds
-    smaller-of-requires
-    add-m
-    loop-less
-    loop-again
-    returns)
+    (tie.spec Inv-loop μ-loop (λ c κs. c .before .pre) loop-holds smaller-of-requires (λ c. omega arith)
+    (λ c. omega arith) loop-again returns)

@@ -23,7 +23,8 @@ returns-2 : tie.Need-returns-2
 returns-2 c =
     let s = c .before .before .before .before in
     let T = delimiters (s .args .b) (s .args .keys .now) in
-    (smaller-kept T (s .args .s .split) (s .args .m) (rw (c .before .before .len-at .ensures, s .pre .1) at (c .if1 .left)), s .pre .1, omega arith)
+    let longer = rw (c .before .before .len-at .ensures, s .pre .1) at (c .if1 .left) in
+    (smaller-kept T (s .args .s .split) (s .args .m) longer, s .pre .1, omega arith)
 
 pub smaller-of-spec : {M : Type 1} → statement M
 smaller-of-spec = tie.close (tie.spec (λ c κs. search needs) returns returns-2)

@@ -4,8 +4,8 @@ use borrow.Author.Needs.{needs}
 use Rattle.splits.proofs.split.entry_at.Statement.{statement}
 use Rattle.splits.proofs.split.entry_at.Tie as tie
 
-cast-result : tie.Need-cast-result
-cast-result c = omega (arith, c .shared-slice-known .given (c .before .args .m))
-
 pub entry-at-spec : {M : Type 1} → statement M
-entry-at-spec = tie.close (tie.spec (λ c. search needs) (λ c. search needs) cast-result (λ c. search needs))
+entry-at-spec =
+    tie.close
+    (tie.spec (λ c. search needs) (λ c. search needs)
+    (λ c. omega (arith, c .shared-slice-known .given (c .before .args .m))) (λ c. search needs))

@@ -1,4 +1,5 @@
--- `splits::split::handle_item` meets its contract: the parent's length is below the split's, so the range has a 2-fattest number. Assumes nothing.
+-- `splits::split::handle_item` meets its contract: the parent's length is below the split's, so the range has a
+-- 2-fattest number. Assumes nothing.
 use mathlib.Core.Path.{_∙_}
 use native.Mathlib.Omega.{arith}
 use Rattle.tables.specs.Delimiters.{delimiters}
@@ -28,7 +29,8 @@ prefix-item-requires c κs =
     omega (
       arith,
       c .before .fattest .ensures .within,
-      len-lt (delimiters (s .args .b) (s .args .keys .now)) (s .pre .0 .rising .table) (s .args .m) (split .pos) (split .small),
+      len-lt (delimiters (s .args .b) (s .args .keys .now)) (s .pre .0 .rising .table) (s .args .m) (split .pos)
+          (split .small),
     )
 
 returns : tie.Need-returns
@@ -36,20 +38,15 @@ returns c =
     let s = c .before .before .before .before .before .before .before .before in
     let split = s .pre .0 .rising .split in
     let f = c .before .before .fattest in
-    let F = rw (c .before .before .before .parent-len .ensures, c .before .before .before .before .len-at .ensures) at (f .ensures) in
+    let F =
+    rw (c .before .before .before .parent-len .ensures, c .before .before .before .before .len-at .ensures) at
+    (f .ensures) in
     rw (c .before .delimiter-at .ensures) at (c .prefix-item .ensures)
-    ∙ handle-by (delimiters (s .args .b) (s .args .keys .now)) (s .pre .0 .rising .table) (s .args .m) (split .pos) (split .small) (s .pre .1) (f .result) F
+    ∙ handle-by (delimiters (s .args .b) (s .args .keys .now)) (s .pre .0 .rising .table) (s .args .m) (split .pos)
+    (split .small) (s .pre .1) (f .result) F
 
 pub handle-item-spec : {M : Type 1} → statement M
 handle-item-spec =
     tie.close
-    (tie.spec
-    (λ c κs. search needs)
-    (λ c κs. search needs)
-    (λ c. search needs)
-    (λ c. search needs)
-    fattest-requires
-    (λ c. search needs)
-    (λ c κs. search needs)
-    prefix-item-requires
-    returns)
+    (tie.spec (λ c κs. search needs) (λ c κs. search needs) (λ c. search needs) (λ c. search needs)
+    fattest-requires (λ c. search needs) (λ c κs. search needs) prefix-item-requires returns)

@@ -12,4 +12,5 @@ returns-2 : tie.Need-returns-2
 returns-2 c = let a = c .before .args in rw (le-ltb (a .i + 1) (a .root) (c .if1 .left))
 
 pub handle-split-spec : {M : Type 1} → statement M
-handle-split-spec = tie.close (tie.spec (λ c. search needs) (λ c. search needs) returns (λ c. search needs) returns-2)
+handle-split-spec =
+    tie.close (tie.spec (λ c. search needs) (λ c. search needs) returns (λ c. search needs) returns-2)

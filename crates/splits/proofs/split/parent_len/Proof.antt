@@ -14,7 +14,8 @@ apart : (s : tie.Start) → let T = delimiters (s .args .b) (s .args .keys .now)
     (leftEntry T (s .args .m) < length T) × (0 < rightEntry T (s .args .m))
 apart s =
     let rising = s .pre .rising in
-    ends-apart (delimiters (s .args .b) (s .args .keys .now)) (rising .table) (s .args .m) (rising .split .pos) (rising .split .small)
+    ends-apart (delimiters (s .args .b) (s .args .keys .now)) (rising .table) (s .args .m) (rising .split .pos)
+    (rising .split .small)
 
 len-of-first-requires : tie.Need-len-of-first-requires
 len-of-first-requires c κs =
@@ -33,11 +34,5 @@ returns c =
 pub parent-len-spec : {M : Type 1} → statement M
 parent-len-spec =
     tie.close
-    (tie.spec
-    (λ c κs. search needs)
-    (λ c κs. search needs)
-    (λ c κs. search needs)
-    len-of-first-requires
-    len-of-end-requires
-    (λ c κs. search needs)
-    returns)
+    (tie.spec (λ c κs. search needs) (λ c κs. search needs) (λ c κs. search needs) len-of-first-requires
+    len-of-end-requires (λ c κs. search needs) returns)

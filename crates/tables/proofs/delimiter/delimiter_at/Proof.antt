@@ -8,7 +8,8 @@ use lib.ListN.{length}
 use borrow.Author.Needs.{needs}
 use Rattle.tables.specs.Tables.{keyAt}
 use Rattle.tables.specs.Delimiters.{buckets}
-use Rattle.tables.proofs.Delimiting.{bucket-begins, length-delimiters, delimiter-is, delimiters-all, row-inner, row-last}
+use Rattle.tables.proofs.Delimiting.{bucket-begins, length-delimiters, delimiter-is, delimiters-all}
+use Rattle.tables.proofs.Delimiting.{row-inner, row-last}
 use Rattle.tables.proofs.delimiter.delimiter_at.Statement.{statement}
 use Rattle.tables.proofs.delimiter.delimiter_at.Tie as tie
 
@@ -22,55 +23,29 @@ begins c = bucket-begins (length (c .args .keys .now)) (c .args .b) (c .args .i)
 one : (c : tie.Then1) → c .before .args .i < length (c .before .args .keys .now)
 one c = rw (delimiters-all (c .before .args .keys .now) (c .if1 .taken)) at (c .before .pre .1)
 
-mul-result : tie.Need-mul-result
-mul-result c = omega (arith, one c)
-
-shared-slice-read-result : tie.Need-shared-slice-read-result
-shared-slice-read-result c = omega (arith, one (c .before))
-
 returns : tie.Need-returns
 returns c =
     let s = c .before .before in
     ap (λ (T : List ℕ). keyAt T (s .args .i)) (sym (delimiters-all (s .args .keys .now) (c .before .if1 .taken)))
 
-mul-end : tie.Need-mul-end
-mul-end c = omega (arith, begins (c .before))
-
-add-end : tie.Need-add-end
-add-end c = omega (arith, begins (c .before))
-
 returns-2 : tie.Need-returns-2
 returns-2 c =
     let s = c .before .before .before in
     let keys = s .args .keys .now in
-    ap (keyAt keys) (row-inner (length keys) (s .args .b) (s .args .i) (c .before .if2 .taken)) ∙ sym (delimiter-is (s .args .b) keys (s .args .i) (there s))
-
-sub-result-2 : tie.Need-sub-result-2
-sub-result-2 c = omega (arith, begins (c .before .before))
-
-shared-slice-read-result-3 : tie.Need-shared-slice-read-result-3
-shared-slice-read-result-3 c = omega (arith, begins (c .before .before .before))
+    ap (keyAt keys) (row-inner (length keys) (s .args .b) (s .args .i) (c .before .if2 .taken))
+    ∙ sym (delimiter-is (s .args .b) keys (s .args .i) (there s))
 
 returns-3 : tie.Need-returns-3
 returns-3 c =
     let s = c .before .before .before in
     let keys = s .args .keys .now in
-    ap (keyAt keys) (row-last (length keys) (s .args .b) (s .args .i) (c .before .if2 .left)) ∙ sym (delimiter-is (s .args .b) keys (s .args .i) (there s))
+    ap (keyAt keys) (row-last (length keys) (s .args .b) (s .args .i) (c .before .if2 .left))
+    ∙ sym (delimiter-is (s .args .b) keys (s .args .i) (there s))
 
 pub delimiter-at-spec : {M : Type 1} → statement M
 delimiter-at-spec =
     tie.close
-    (tie.spec
-    mul-result
-    shared-slice-read-result
-    returns
-    mul-end
-    add-end
-    (λ c. search needs)
-    (λ c. search needs)
-    (λ c. search needs)
-    returns-2
-    sub-result-2
-    (λ c. search needs)
-    shared-slice-read-result-3
-    returns-3)
+    (tie.spec (λ c. omega (arith, one c)) (λ c. omega (arith, one (c .before))) returns
+    (λ c. omega (arith, begins (c .before))) (λ c. omega (arith, begins (c .before))) (λ c. search needs)
+    (λ c. search needs) (λ c. search needs) returns-2 (λ c. omega (arith, begins (c .before .before)))
+    (λ c. search needs) (λ c. omega (arith, begins (c .before .before .before))) returns-3)

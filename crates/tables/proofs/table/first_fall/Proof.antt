@@ -1,5 +1,5 @@
--- `tables::table::first_fall` meets its contract. The loop's invariant: the search over the whole table has come to row i. The measure is the rows
--- that are left. Assumes nothing.
+-- `tables::table::first_fall` meets its contract. The loop's invariant: the search over the whole table has come to
+-- row i. The measure is the rows that are left. Assumes nothing.
 use mathlib.Core.Path.{_≡_, refl, sym, _∙_}
 use Prim.Native.Nat.{_-_, _≤_}
 use native.Mathlib.Omega.{arith}
@@ -18,31 +18,10 @@ abbrev μ-loop : tie.MeasureT-loop
 loop-holds : tie.Need-loop-holds Inv-loop μ-loop
 loop-holds c = (omega arith, refl)
 
-sub-before : tie.Need-sub-before Inv-loop μ-loop
-sub-before c = omega arith
-
-mul-if1 : tie.Need-mul-if1 Inv-loop μ-loop
-mul-if1 c = omega arith
-
-shared-slice-read-if1 : tie.Need-shared-slice-read-if1 Inv-loop μ-loop
-shared-slice-read-if1 c = omega arith
-
-mul-if1-2 : tie.Need-mul-if1-2 Inv-loop μ-loop
-mul-if1-2 c = omega arith
-
-shared-slice-read-if1-2 : tie.Need-shared-slice-read-if1-2 Inv-loop μ-loop
-shared-slice-read-if1-2 c = omega arith
-
 returns : tie.Need-returns Inv-loop μ-loop
 returns c =
     let head = c .before .before .before .before in
     sym (head .loop .inv .1 ∙ fall-here (head .before .args .keys .now) (head .loop .i) (omega arith) (omega arith))
-
-add-i : tie.Need-add-i Inv-loop μ-loop
-add-i c = omega arith
-
-loop-less : tie.Need-loop-less Inv-loop μ-loop
-loop-less c = omega arith
 
 loop-again : tie.Need-loop-again Inv-loop μ-loop
 loop-again c =
@@ -50,22 +29,11 @@ loop-again c =
     (omega arith, head .loop .inv .1 ∙ fall-later (head .before .args .keys .now) (head .loop .i) (omega arith) (omega arith))
 
 returns-2 : tie.Need-returns-2 Inv-loop μ-loop
-returns-2 c = sym (c .before .loop .inv .1 ∙ fall-past (c .before .before .args .keys .now) (c .before .loop .i) (c .loop-test .left))
+returns-2 c =
+    sym (c .before .loop .inv .1 ∙ fall-past (c .before .before .args .keys .now) (c .before .loop .i) (c .loop-test .left))
 
 pub first-fall-spec : {M : Type 1} → statement M
 first-fall-spec =
     tie.close
-    (tie.spec
-    Inv-loop
-    μ-loop
-    loop-holds
-    sub-before
-    mul-if1
-    shared-slice-read-if1
-    mul-if1-2
-    shared-slice-read-if1-2
-    returns
-    add-i
-    loop-less
-    loop-again
-    returns-2)
+    (tie.spec Inv-loop μ-loop loop-holds (λ c. omega arith) (λ c. omega arith) (λ c. omega arith)
+    (λ c. omega arith) (λ c. omega arith) returns (λ c. omega arith) (λ c. omega arith) loop-again returns-2)

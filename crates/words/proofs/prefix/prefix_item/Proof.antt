@@ -8,4 +8,7 @@ returns : tie.Need-returns
 returns c = item-shifted (c .args .x) (c .args .l) (c .fits .x .fits) (c .pre)
 
 pub prefix-item-spec : {M : Type 1} → statement M
-prefix-item-spec = tie.close (tie.spec (λ c. search needs) (λ c. search needs) (λ c. search needs) (λ c. search needs) (λ c. search needs) returns)
+prefix-item-spec =
+    tie.close
+    (tie.spec (λ c. search needs) (λ c. search needs) (λ c. search needs) (λ c. search needs)
+    (λ c. search needs) returns)

@@ -8,6 +8,5 @@ use Rattle.words.proofs.remainder.reciprocal.Tie as tie
 pub reciprocal-spec : {M : Type 1} → statement M
 reciprocal-spec =
     tie.close
-    (tie.spec
-    (λ c. search needs)
+    (tie.spec (λ c. search needs)
     (λ c. record { within = lt-of-le-of-lt (div-mul-le-self _ _) (omega arith); most = lt-div-mul-add (c .pre) }))

@@ -14,4 +14,5 @@ returns c =
 
 pub small-remainder-spec : {M : Type 1} → statement M
 small-remainder-spec =
-    tie.close (tie.spec (λ c. omega (arith, mul-le-mul-left (c .args .r) (c .pre .1))) (λ c κs. tt) (λ c κs. tt) returns)
+    tie.close
+    (tie.spec (λ c. omega (arith, mul-le-mul-left (c .args .r) (c .pre .1))) (λ c κs. tt) (λ c κs. tt) returns)

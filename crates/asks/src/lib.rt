@@ -1,0 +1,74 @@
+// The answers to the asks (document 01, "`rowcheck`"), printed one after the other over stores that answer.
+//
+// Every function is proved and the crate assumes nothing.
+ghost use Rattle.digits.specs.Texts.{Writes};
+ghost use Rattle.lines.specs.Lines.{texts};
+ghost use Rattle.index.specs.Answers.{Answers};
+ghost use Rattle.asks.specs.Asks.{askLines};
+ghost use Rattle.asks.specs.Inner.{Prints};
+use digits::Next;
+use index::CallAnswer;
+use index::NeighbourAnswer;
+use rowtext::Called;
+use rowtext::printer::write_ask;
+
+// The four lines of one ask, at position i.
+fn answer_ask(
+    keys: &[u64],
+    b: usize,
+    seed: u64,
+    cells: &[u16],
+    handles: &[u16],
+    left: &[u16],
+    right: &[u16],
+    x: u64,
+    out: &mut [u8],
+    i: usize,
+) -> Next
+    requires { ⌜ Answers (now keys) b seed seed seed (now cells) (now handles) (now left) (now right) ⌝ }
+    ensures { λ r. ⌜ Writes (askLines (now (keys .entry)) x) (now (out .entry)) i (now (out .exit)) r ⌝ }
+{
+    let NeighbourAnswer::At(place) = index::neighbour_ask(keys, seed, handles, left, right, x)
+    else {
+        return Next::Off;
+    };
+    match index::call_ask(keys, b, seed, seed, cells, x) {
+        CallAnswer::Row(row) => write_ask(out, i, x, Called::Row(row), place.before, place.probes),
+        CallAnswer::Absent => write_ask(out, i, x, Called::Absent, place.before, place.probes),
+        CallAnswer::Refused(_) => Next::Off,
+    }
+}
+
+// The lines of all asks, from position i on.
+pub fn answer_asks(
+    keys: &[u64],
+    b: usize,
+    seed: u64,
+    cells: &[u16],
+    handles: &[u16],
+    left: &[u16],
+    right: &[u16],
+    asks: &[u64],
+    out: &mut [u8],
+    i: usize,
+) -> Next
+    requires { ⌜ Answers (now keys) b seed seed seed (now cells) (now handles) (now left) (now right) ⌝ }
+    ensures { λ r.
+        ⌜ Prints (texts (askLines (now (keys .entry))) (now (asks .entry)))
+        (now (out .entry)) i (now (out .exit)) r ⌝ }
+{
+    if out.len() < i {
+        return Next::Off;
+    }
+    let mut k = 0;
+    let mut at = i;
+    while k < asks.len() {
+        let Next::At(j) = answer_ask(keys, b, seed, cells, handles, left, right, asks[k], out, at)
+        else {
+            return Next::Off;
+        };
+        at = j;
+        k += 1;
+    }
+    Next::At(at)
+}

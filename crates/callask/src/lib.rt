@@ -1,0 +1,71 @@
+// Asking the call index (document 01, "Call index"): a planned key gets its sorted row, and every other key is absent.
+//
+// Every function is proved and the crate assumes nothing. `call_ask` takes whatever it is handed.
+ghost use mathlib.Core.Path.{_≡_};
+ghost use Prim.Native.Nat.{_<_};
+ghost use Rattle.callask.specs.Ask.{saidByCall, callSays, ruleSays, rowSays};
+ghost use Rattle.callask.specs.Inner.{Askable};
+use refusals::Refusal;
+
+pub enum CallAnswer {
+    Row(usize),
+    Absent,
+    Refused(Refusal),
+}
+
+fn widen(x: u16) -> usize
+    ensures { λ r. ⌜ (r ≡ x) × (r < 65536) ⌝ }
+{
+    x as usize
+}
+
+// The row is the answer only where the table's key there is x: a map says something of every key.
+fn compared(keys: &[u64], row: usize, x: u64) -> CallAnswer
+    ensures { λ r. ⌜ saidByCall r ≡ rowSays (now (keys .entry)) row x ⌝ }
+{
+    if row < keys.len() {
+        if keys[row] == x {
+            return CallAnswer::Row(row);
+        }
+    }
+    CallAnswer::Absent
+}
+
+// The rule, for stores and tables of any content.
+fn by_rule(keys: &[u64], b: usize, seed1: u64, seed2: u64, cells: &[u16], x: u64) -> CallAnswer
+    requires { ⌜ Askable (now keys) b (now cells) ⌝ }
+    ensures { λ r. ⌜ saidByCall r ≡ ruleSays (now (keys .entry)) b seed1 seed2 (now (cells .entry)) x ⌝ }
+{
+    let n = keys.len();
+    let value = cells::look_up(cells, n, seed1, x);
+    let length = value / 256;
+    let offset = value % 256;
+    if 63 < length {
+        return CallAnswer::Absent;
+    }
+    let k = tables::delimiter::bucket_count(n, b);
+    let c = cells::cell_count(n);
+    let prefix = words::prefix::prefix_item(x, length as u32);
+    let bucket = cells::look_up(&cells[c..], k, seed2, prefix);
+    compared(keys, widen(bucket) * b + widen(offset), x)
+}
+
+// What the call index says of x. Nothing is changed.
+pub fn call_ask(keys: &[u64], b: usize, seed1: u64, seed2: u64, cells: &[u16], x: u64) -> CallAnswer
+    ensures { λ r. ⌜ saidByCall r ≡ callSays (now (keys .entry)) b seed1 seed2 (now (cells .entry)) x ⌝ }
+{
+    let n = keys.len();
+    if 32768 < n {
+        return CallAnswer::Refused(Refusal::TooManyKeys);
+    }
+    if b < 2 {
+        return CallAnswer::Refused(Refusal::BucketSize);
+    }
+    if 256 < b {
+        return CallAnswer::Refused(Refusal::BucketSize);
+    }
+    if cells.len() < tables::lengths::call_cells(n, b) {
+        return CallAnswer::Refused(Refusal::Short(1));
+    }
+    by_rule(keys, b, seed1, seed2, cells, x)
+}

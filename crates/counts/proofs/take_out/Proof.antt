@@ -1,0 +1,23 @@
+-- `counts::take_out` meets its contract: the two stores, at the cell and at its xor, are those of the law `take-at`.
+-- Assumes nothing.
+use Prim.Native.Nat.{_-_}
+use native.Mathlib.Omega.{arith}
+use denote.Ref.{now}
+use lib.ListN.{getD, length-set}
+use Rattle.jams.proofs.Puts.{take-at}
+use borrow.Author.Needs.{needs}
+use Rattle.counts.proofs.take_out.Statement.{statement}
+use Rattle.counts.proofs.take_out.Tie as tie
+
+returns : tie.Need-returns
+returns c =
+    let a = c .before .before .args in
+    take-at (now (a .work)) (a .cap) (a .c) (getD (now (a .work)) (a .c) 0 - 1) (a .i) (omega arith) (omega arith)
+    (omega arith)
+
+pub take-out-spec : {M : Type 1} → statement M
+take-out-spec =
+    tie.close
+    (tie.spec (λ c. search needs) (λ c. search needs) (λ c. search needs) (λ c. search needs) (λ c. search needs)
+    (λ c. search needs) (λ c. search needs) (λ c. simp length-set (omega arith)) (λ c. search needs)
+    (λ c. simp length-set (omega arith)) (λ c. search needs) returns)

@@ -1,0 +1,2 @@
+-- Inner: what the contracts of `counts`, `peels` and `fills` cite. No entry's statement leads there.
+pub mod Inner

@@ -1,0 +1,62 @@
+// Stores that no build left.
+ghost use Prim.Native.Nat.{_≤_};
+use std::num::wrapping_add_u64;
+use words::hash::mix;
+
+// Each entry i from `from` on and below `end` is to hold base + (mix(i + add) mod (most + 1)).
+pub struct Part {
+    from: usize,
+    end: usize,
+    base: u16,
+    add: u64,
+    most: u16,
+}
+
+pub fn mixed(from: usize, end: usize, add: u64, most: u16) -> Part {
+    Part {
+        from: from,
+        end: end,
+        base: 0,
+        add: add,
+        most: most,
+    }
+}
+
+pub fn same(from: usize, end: usize, v: u16) -> Part {
+    Part {
+        from: from,
+        end: end,
+        base: v,
+        add: 0,
+        most: 0,
+    }
+}
+
+// The part of no entries.
+pub fn none() -> Part {
+    same(0, 0, 0)
+}
+
+fn entry_at(part: Part, i: usize) -> u16 {
+    let above = mix(wrapping_add_u64(i as u64, part.add)) % (part.most as u64 + 1);
+    (wrapping_add_u64(part.base as u64, above) % 65536) as u16
+}
+
+fn least(a: usize, b: usize) -> usize
+    ensures { λ r. ⌜ (r ≤ a) × (r ≤ b) ⌝ }
+{
+    if a < b {
+        return a;
+    }
+    b
+}
+
+// Fills the part; where the store ends before it, to the store's end.
+pub fn fill(part: Part, store: &mut [u16]) {
+    let end = least(part.end, store.len());
+    let mut i = part.from;
+    while i < end {
+        store[i] = entry_at(part, i);
+        i += 1;
+    }
+}

@@ -1,0 +1,68 @@
+// The first seed that both builds take (document 01, "`rowcheck`"): seeds 0, 1, .. 255, the same for all maps, in stores as long as 2,048 keys can
+// want.
+//
+// Every function is proved and the crate assumes nothing.
+ghost use Prim.Native.Nat.{_≤_};
+ghost use lib.ListN.{length};
+ghost use Rattle.seeds.specs.Inner.{SeedTried, Chose};
+use index::Refusal;
+use index::Verdict;
+
+// A seed, or the refusal of the table, which is that of the last seed where all jam.
+pub enum Choice {
+    Seed(u64),
+    Refused(Refusal),
+}
+
+// What both builds say of the seed, the same for all maps.
+fn try_seed(
+    keys: &[u64],
+    b: usize,
+    seed: u64,
+    cells: &mut [u16; 5178],
+    handles: &mut [u16; 2589],
+    left: &mut [u16; 2048],
+    right: &mut [u16; 2048],
+    work: &mut [u16; 9274],
+) -> Verdict
+    requires { ⌜ length (now keys) ≤ 2048 ⌝ }
+    ensures { λ r.
+        ⌜ SeedTried (now (keys .entry)) b seed
+        (now (cells .exit)) (now (handles .exit)) (now (left .exit)) (now (right .exit)) r ⌝ }
+{
+    match index::call_build(keys, b, seed, seed, cells, work) {
+        Verdict::Taken => index::neighbour_build(keys, seed, handles, left, right, work),
+        Verdict::Refused(refusal) => Verdict::Refused(refusal),
+    }
+}
+
+// Tries seeds 0, 1, .. 255. Only a jam goes on to the next: any other refusal is the table's.
+pub fn first_seed(
+    keys: &[u64],
+    b: usize,
+    cells: &mut [u16; 5178],
+    handles: &mut [u16; 2589],
+    left: &mut [u16; 2048],
+    right: &mut [u16; 2048],
+    work: &mut [u16; 9274],
+) -> Choice
+    requires { ⌜ length (now keys) ≤ 2048 ⌝ }
+    ensures { λ r.
+        ⌜ Chose (now (keys .entry)) b
+        (now (cells .exit)) (now (handles .exit)) (now (left .exit)) (now (right .exit)) r ⌝ }
+{
+    let mut seed: u64 = 0;
+    loop {
+        let Verdict::Refused(refusal) = try_seed(keys, b, seed, cells, handles, left, right, work)
+        else {
+            return Choice::Seed(seed);
+        };
+        if refusal.number() != 5 {
+            return Choice::Refused(refusal);
+        }
+        if seed == 255 {
+            return Choice::Refused(refusal);
+        }
+        seed += 1;
+    }
+}
