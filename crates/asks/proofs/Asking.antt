@@ -13,9 +13,9 @@ use Rattle.neighbour.specs.Ask.{place, saidByNeighbour, standsAt, neighbourSays
 use Rattle.index.specs.Answers.{rowOf, probesOf, Answers}
 use Rattle.places.specs.declared.Place.{Place}
 use Rattle.places.specs.declared.NeighbourAnswer.the-variants.{At, Refused}
-use Rattle.rowtext.specs.Output.{askText}
-use Rattle.rowtext.specs.declared.Called.{Called}
-use Rattle.rowtext.specs.declared.Called.the-variants.{Row, Absent}
+use Rattle.rowoutput.specs.Output.{askText}
+use Rattle.rowoutput.specs.declared.Called.{Called}
+use Rattle.rowoutput.specs.declared.Called.the-variants.{Row, Absent}
 use Rattle.asks.specs.Asks.{askLines}
 
 -- what the call index said that is printed so

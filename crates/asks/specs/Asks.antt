@@ -3,8 +3,8 @@ use mathlib.Core.List.{List}
 use Prim.Native.Nat.{ℕ}
 use Rattle.tables.specs.Tables.{smaller}
 use Rattle.index.specs.Answers.{rowOf, probesOf}
-use Rattle.rowtext.specs.Output.{askText}
-use Rattle.rowtext.specs.declared.Called.the-variants.{Row, Absent}
+use Rattle.rowoutput.specs.Output.{askText}
+use Rattle.rowoutput.specs.declared.Called.the-variants.{Row, Absent}
 
 -- the four lines of an ask
 abbrev pub askLines : List ℕ → ℕ → List ℕ

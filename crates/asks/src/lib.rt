@@ -9,8 +9,8 @@ ghost use Rattle.asks.specs.Inner.{Prints};
 use digits::Next;
 use index::CallAnswer;
 use index::NeighbourAnswer;
-use rowtext::Called;
-use rowtext::printer::write_ask;
+use rowoutput::Called;
+use rowoutput::write_ask;
 
 // The four lines of one ask, at position i.
 fn answer_ask(

@@ -1,5 +1,6 @@
-// Numbers as text (document 01, "`rowcheck`"): decimal without leading zeros, and 16 lower-case hexadecimal digits.
-// They are read from a slice of bytes at a position and written there, each with the byte that ends it.
+// Numbers as text (document 01, "`rowcheck`"): decimal without leading zeros, and 16 lower-case hexadecimal digits
+// (whose code stands in `hex`). They are read from a slice of bytes at a position and written there, each with the byte
+// that ends it.
 //
 // Every function is proved and the crate assumes nothing. No public function has a `requires`.
 ghost use mathlib.Core.Path.{_≡_};
@@ -7,8 +8,7 @@ ghost use Rattle.digits.specs.Texts.{nextOr};
 ghost use Rattle.digits.specs.Numbers.{plainly};
 
 pub mod decimal;
-pub mod hex;
-mod put;
+pub mod put;
 
 // What a reader of a number found: its value, and the position after its text.
 pub enum Read {

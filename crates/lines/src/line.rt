@@ -18,7 +18,7 @@ pub fn read_line(s: &[u8], i: usize, tag: &[u8], kind: Kind, most: u64) -> Read
     };
     match kind {
         Kind::Decimal => digits::decimal::read_decimal(s, j, most, 10).plain(),
-        Kind::Hex => digits::hex::read_hex(s, j, most, 10),
+        Kind::Hex => hex::read_hex(s, j, most, 10),
     }
 }
 
@@ -52,6 +52,6 @@ pub fn write_line(out: &mut [u8], i: usize, tag: &[u8], kind: Kind, v: u64) -> N
     let j = text::write_bytes(out, i, tag).or(i);
     match kind {
         Kind::Decimal => digits::decimal::write_decimal(out, j, v, 10),
-        Kind::Hex => digits::hex::write_hex(out, j, v, 10),
+        Kind::Hex => hex::write_hex(out, j, v, 10),
     }
 }

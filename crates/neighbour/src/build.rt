@@ -23,7 +23,7 @@ pub fn build_stores(
         (now (left .entry)) (now (right .entry)) (now (work .entry))
         (saidByBuild r) (now (handles .exit)) (now (left .exit)) (now (right .exit)) (now (work .exit)) ⌝ }
 {
-    splits::bounds::build_bounds(keys, b, left, right);
+    bounds::build_bounds(keys, b, left, right);
     if 0 < maps::build::build(Items::Handles, b, seed3, keys, left, right, handles, work) {
         let n = tables::delimiter::delimiter_count(keys, b);
         cells::clear(left, n);

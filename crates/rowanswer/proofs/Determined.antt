@@ -7,7 +7,7 @@ use native.Mathlib.Omega.{arith}
 use lib.ListN.{length, drop}
 use Rattle.tables.specs.Tables.{Table, firstFall}
 use Rattle.tables.proofs.Rising.{table-no-fall}
-use Rattle.rowtext.proofs.Determined.{one-reading}
+use Rattle.rowinput.proofs.Determined.{one-reading}
 use Rattle.seeds.specs.Seeds.{SeedJams, SeedTaken}
 use Rattle.rowanswer.specs.Answers.{TableText, bucketSize, falls, jams, answers}
 use Rattle.rowanswer.specs.Answers.{badText, goodText}

@@ -6,10 +6,10 @@ use native.Mathlib.Omega.{arith}
 use lib.ListN.{length, take, drop, length-append}
 use lib.Seq.{take-at, length-take-le}
 use Rattle.refusals.specs.declared.Refusal.{Refusal}
-use Rattle.rowtext.specs.Input.{Fine, InputHeld, ReadsInput}
-use Rattle.rowtext.specs.declared.Input.{Input}
-use Rattle.rowtext.specs.declared.Input.the-variants.{Taken, Refused}
-use Rattle.rowtext.specs.Output.{refusedText}
+use Rattle.rowinput.specs.Input.{Fine, InputHeld, ReadsInput}
+use Rattle.rowinput.specs.declared.Input.{Input}
+use Rattle.rowinput.specs.declared.Input.the-variants.{Taken, Refused}
+use Rattle.rowoutput.specs.Output.{refusedText}
 use Rattle.seeds.specs.Seeds.{SeedJams}
 use Rattle.seeds.specs.Inner.{Refuses, badBucket, falling, jammed}
 use Rattle.rowanswer.specs.Answers.{TableText, bucketSize, falls, jams, RowcheckText, badText, goodText}

@@ -12,7 +12,7 @@ use Rattle.digits.specs.declared.Next.{Next}
 use Rattle.digits.specs.declared.Next.the-variants.{At, Off}
 use Rattle.digits.proofs.Placing.{placed-then, writes-length}
 use Rattle.lines.specs.Lines.{texts}
-use Rattle.rowtext.specs.Output.{headText, answersText}
+use Rattle.rowoutput.specs.Output.{headText, answersText}
 use Rattle.asks.specs.Asks.{askLines}
 use Rattle.asks.specs.Inner.{Prints}
 use Rattle.rowanswer.specs.Answers.{answered, Shown}

@@ -17,12 +17,12 @@ use Rattle.walks.proofs.Answering.{walk-six}
 use Rattle.walks.proofs.Deciding.{smaller-most}
 use Rattle.digits.specs.Texts.{bytes}
 use Rattle.lines.specs.Lines.{texts}
-use Rattle.rowtext.specs.Input.{NoInput}
-use Rattle.rowtext.specs.Output.{headText, answersText}
-use Rattle.rowtext.specs.declared.Called.the-variants.{Row, Absent}
-use Rattle.rowtext.proofs.Determined.{longest}
-use Rattle.rowtext.proofs.Printing.{Narrow, decimal-longest, ask-longest}
-use Rattle.rowtext.specs.Output.{refusedText}
+use Rattle.rowinput.specs.Input.{NoInput}
+use Rattle.rowoutput.specs.Output.{headText, answersText}
+use Rattle.rowoutput.specs.declared.Called.the-variants.{Row, Absent}
+use Rattle.rowinput.proofs.Determined.{longest}
+use Rattle.rowoutput.proofs.Printing.{Narrow, decimal-longest, ask-longest}
+use Rattle.rowoutput.specs.Output.{refusedText}
 use Rattle.asks.specs.Asks.{askLines}
 use Rattle.rowanswer.specs.Answers.{answered, TableText}
 use Rattle.rowanswer.specs.Answers.{bucketSize, falls, jams, answers}

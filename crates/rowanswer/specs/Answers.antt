@@ -7,9 +7,9 @@ use Prim.Native.Nat.{ℕ, _≤_, _<_}
 use lib.ListN.{length, take, drop}
 use Rattle.tables.specs.Tables.{Table, smaller, firstFall}
 use Rattle.index.specs.Answers.{rowOf, probesOf}
-use Rattle.rowtext.specs.Input.{rowText, Fine, NoInput}
-use Rattle.rowtext.specs.Output.{answersText, refusedText}
-use Rattle.rowtext.specs.declared.Called.the-variants.{Row, Absent}
+use Rattle.rowinput.specs.Input.{rowText, Fine, NoInput}
+use Rattle.rowoutput.specs.Output.{answersText, refusedText}
+use Rattle.rowoutput.specs.declared.Called.the-variants.{Row, Absent}
 use Rattle.seeds.specs.Seeds.{SeedJams, SeedTaken}
 
 -- all that is printed of a table and its asks, where some seed is taken

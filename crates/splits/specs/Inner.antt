@@ -1,14 +1,13 @@
 -- What only the contracts of inner functions need: a table whose delimiters are counted, and stores while they are
 -- written.
 use mathlib.Core.Path.{_≡_}
-use mathlib.Core.Bool.{Bool, cond, _&&_}
+use mathlib.Core.Bool.{Bool, _&&_}
 use mathlib.Core.List.{List}
 use Prim.Native.Nat.{ℕ, _≤_, _<_}
-use lib.Dec.{eqb, leb, ltb}
+use lib.Dec.{leb, ltb}
 use lib.ListN.{length, getD}
 use Rattle.tables.specs.Tables.{Table}
 use Rattle.tables.specs.Delimiters.{delimiters, Bucketed}
-use Rattle.splits.specs.declared.bounds.Shortest.{Shortest}
 use Rattle.splits.specs.Splits.{len, leftEntry, rightEntry}
 
 -- m is a split of the delimiters
@@ -50,10 +49,6 @@ pub record Roomy (b : ℕ) (keys lefts rights : List ℕ) : Type 0 where
 -- row j is a split with a string of l bits or more
 abbrev pub goesOn : List ℕ → ℕ → ℕ → Bool
 goesOn T j l = leb 1 j && (ltb j (length T) && leb l (len T j))
-
--- s is a split or 0, and its length, where the length of 0 is more than any
-abbrev pub Measured : List ℕ → Shortest → Type 0
-Measured T s = s .bits ≡ cond (eqb (s .split) 0) 65 (len T (s .split))
 
 -- `new` holds entry i at each i from lo up to, not including, hi, and is as `old` elsewhere
 pub record Wrote (lo hi : ℕ) (entry : ℕ → ℕ) (old new : List ℕ) : Type 0 where

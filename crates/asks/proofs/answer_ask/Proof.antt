@@ -3,9 +3,9 @@
 use borrow.Author.Needs.{needs}
 use mathlib.Core.Path.{_≡_, ap, sym}
 use Rattle.callask.specs.Ask.{saidByCall}
-use Rattle.rowtext.specs.Output.{askText}
-use Rattle.rowtext.specs.declared.Called.{Called}
-use Rattle.rowtext.specs.declared.Called.the-variants.{Row, Absent}
+use Rattle.rowoutput.specs.Output.{askText}
+use Rattle.rowoutput.specs.declared.Called.{Called}
+use Rattle.rowoutput.specs.declared.Called.the-variants.{Row, Absent}
 use Rattle.asks.specs.Asks.{askLines}
 use Rattle.asks.proofs.Asking.{saidOf, neighbour-refused, call-refused, ask-said}
 use Rattle.asks.proofs.answer_ask.Statement.{statement}

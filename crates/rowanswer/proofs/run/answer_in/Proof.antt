@@ -3,7 +3,7 @@
 use mathlib.Core.Path.{refl}
 use borrow.Author.Needs.{needs}
 use Rattle.refusals.specs.Numbers.{number}
-use Rattle.rowtext.specs.Output.{refusedText}
+use Rattle.rowoutput.specs.Output.{refusedText}
 use Rattle.rowanswer.specs.Answers.{answered, answers}
 use Rattle.seeds.specs.Inner.{Chose}
 use Rattle.rowanswer.proofs.Reading.{refuses-text}

@@ -4,7 +4,7 @@ use Prim.Native.Nat.{ℕ, min}
 use mathlib.Core.List.{List}
 use lib.ListN.{length}
 use borrow.Author.Needs.{needs}
-use Rattle.rowtext.specs.Input.{InputHeld}
+use Rattle.rowinput.specs.Input.{InputHeld}
 use Rattle.rowanswer.proofs.Reading.{taken-holds, start-within, start-long, keys-few, read-shows, refused-shows}
 use Rattle.rowanswer.proofs.run.answer_read.Statement.{statement}
 use Rattle.rowanswer.proofs.run.answer_read.Tie as tie

@@ -1,7 +1,7 @@
 -- `rowanswer::run::refuse` meets its contract: it writes the refusal's line at the start. Assumes nothing.
 use borrow.Author.Needs.{needs}
 use Rattle.refusals.specs.Numbers.{number}
-use Rattle.rowtext.specs.Output.{refusedText}
+use Rattle.rowoutput.specs.Output.{refusedText}
 use Rattle.rowanswer.proofs.Showing.{writes-shown}
 use Rattle.rowanswer.proofs.run.refuse.Statement.{statement}
 use Rattle.rowanswer.proofs.run.refuse.Tie as tie

@@ -1,0 +1,2 @@
+-- What rowcheck prints.
+pub mod Output
