@@ -9,7 +9,7 @@ use refusals::Verdict;
 
 // The stores over the delimiters of buckets of b rows, once nothing else is refused; with b = 1 they are those of the
 // table itself.
-pub fn build_stores(
+fn build_stores(
     keys: &[u64],
     b: usize,
     seed3: u64,
