@@ -1,4 +1,4 @@
-//! Call keys. From the top: day 16 bits, stop 16, planned second 17, block 15.
+//! Call keys. From the top: day 16 bits, stop 16, planned second 17, block 15. A service day is thirty hours long.
 
 use crate::refusal::{Refusal, FIELD_TOO_LARGE};
 
@@ -10,7 +10,7 @@ pub struct Fields {
     pub block: u32,
 }
 
-const LARGEST: Fields = Fields { day: 65_535, stop: 65_535, second: 86_399, block: 32_767 };
+const LARGEST: Fields = Fields { day: 65_535, stop: 65_535, second: 107_999, block: 32_767 };
 
 pub fn pack(fields: Fields) -> Result<u64, Refusal> {
     if fields.day > LARGEST.day

@@ -81,6 +81,15 @@ fn bits() -> usize {
 fn key_fields() -> usize {
     let mut gen = Gen::new(2);
     assert_eq!(pack(Fields { day: 1, stop: 2, second: 3, block: 4 }), Ok(0x0001000200018004));
+    // Of the seconds that 17 bits hold, those of thirty hours are taken, and no other.
+    let seconds: u32 = 1 << 17;
+    for second in 0..seconds {
+        let fields = Fields { day: 1, stop: 2, second, block: 4 };
+        let key = 0x0001000200000004 + (u64::from(second) << 15);
+        let fits = second < 30 * 60 * 60;
+        assert_eq!(pack(fields).ok(), fits.then_some(key));
+        assert_eq!(unpack(key).ok(), fits.then_some(fields));
+    }
     let count = 200_000;
     let mut taken = [0; 2];
     for _ in 0..count {
@@ -88,12 +97,12 @@ fn key_fields() -> usize {
         let fields = Fields {
             day: field(66_000),
             stop: field(66_000),
-            second: field(90_000),
+            second: field(140_000),
             block: field(33_000),
         };
         let fits = fields.day < 65_536
             && fields.stop < 65_536
-            && fields.second < 86_400
+            && fields.second < 108_000
             && fields.block < 32_768;
         match pack(fields) {
             Ok(key) => assert!(fits && unpack(key) == Ok(fields)),
@@ -107,11 +116,11 @@ fn key_fields() -> usize {
                 assert_eq!(pack(fields), Ok(key));
                 taken[1] += 1;
             }
-            Err(refusal) => assert!(refusal.number == 7 && (key >> 15) % (1 << 17) > 86_399),
+            Err(refusal) => assert!(refusal.number == 7 && (key >> 15) % (1 << 17) > 107_999),
         }
     }
     assert!(taken.iter().all(|&taken| 0 < taken && taken < count));
-    1 + 2 * count
+    1 + 2 * seconds as usize + 2 * count
 }
 
 /// Compares both ways of finding a jam, and looks whether what peeling leaves is a jam.

@@ -1,4 +1,4 @@
--- Packing and unpacking undo each other, by the packing law at 16, 16, 17 and 15 bits. Assumes nothing.
+-- Packing and unpacking undo each other, by the packing law at 16, 16, 17 and 15 bits; what they take. Assumes nothing.
 use mathlib.Core.Path.{_≡_, refl, sym, ap, _∙_}
 use mathlib.Core.Bool.{Bool, true, false, cond}
 use mathlib.Core.List.{List, [], _∷_}
@@ -11,6 +11,7 @@ use Rattle.basics.proofs.Bools.{differ}
 use Rattle.callkey.specs.Fields.{joined, parted, Fit, none, one}
 use Rattle.callkey.specs.CallKeys.{Said, key, fields, refused, widths, lastSecond, packSays, unpackSays}
 use Rattle.callkey.specs.Demands.{ComeOutAgain, PacksBack, OneCall, KeyFits}
+use Rattle.callkey.specs.Vouched.{DocumentKey, PackedIff, UnpackedIff}
 use Rattle.callkey.proofs.Packing.{join-fits, part-join, part-fits, join-part}
 
 -- the fields are within their limits
@@ -51,6 +52,11 @@ taken d s t b k e =
       r .4,
     )
 
+-- what is within the limits is taken
+within-taken : (d s t b : ℕ) → Within d s t b → packSays d s t b ≡ key (joined widths (d ∷ s ∷ t ∷ b ∷ []))
+unfolding packSays
+within-taken d s t b W = rw (le-ltb _ _ (W .day), le-ltb _ _ (W .stop), le-ltb _ _ (W .second), le-ltb _ _ (W .block))
+
 -- the fields of the key that the packer made
 come-out : (d s t b k : ℕ) → packSays d s t b ≡ key k → parted widths k ≡ d ∷ s ∷ t ∷ b ∷ []
 come-out d s t b k e = let r = taken d s t b k e in rw (sym (r .1)) (part-join (within-fits d s t b (r .0)))
@@ -86,12 +92,33 @@ limits d s t b (one hd (one hs (one ht (one hb none)))) h =
     record { day = omega arith; stop = omega arith; second = h; block = omega arith }
 
 pub key-packs-back : PacksBack
-unfolding packSays unpackSays
+unfolding unpackSays
 key-packs-back d s t b k h e =
     let fs = parted widths k in
     let r = by-test (ltb lastSecond (getD fs 2 0)) (getD fs 0 0) (getD fs 1 0) (getD fs 2 0) (getD fs 3 0) d s t b e in
     let are : fs ≡ d ∷ s ∷ t ∷ b ∷ [] = cc in
     let W =
     limits d s t b (rw are at (part-fits widths k h)) (omega (arith, ltb-false lastSecond (getD fs 2 0) (r .0))) in
-    rw (le-ltb _ _ (W .day), le-ltb _ _ (W .stop), le-ltb _ _ (W .second), le-ltb _ _ (W .block))
-    (ap key (ap (joined widths) (sym are) ∙ join-part widths k h))
+    within-taken d s t b W ∙ ap key (ap (joined widths) (sym are) ∙ join-part widths k h)
+
+pub document-key : DocumentKey
+unfolding packSays
+document-key = refl
+
+pub packed-iff : PackedIff
+packed-iff d s t b = (
+  λ e. let W = taken d s t b _ e .0 in
+      (omega (arith, W .day), omega (arith, W .stop), omega (arith, W .second), omega (arith, W .block)),
+  λ w. let second : t < 2 ^ 17 = omega (arith, w .2) in
+      within-taken d s t b
+      (limits d s t b (one (w .0) (one (w .1) (one second (one (w .3) none)))) (omega (arith, w .2))),
+)
+
+pub unpacked-iff : UnpackedIff
+unfolding unpackSays
+unpacked-iff k =
+    let fs = parted widths k in (
+      λ e. let r = by-test (ltb lastSecond (getD fs 2 0)) _ _ _ _ _ _ _ _ e in
+          omega (arith, ltb-false lastSecond (getD fs 2 0) (r .0)),
+      λ h. rw (le-ltb lastSecond (getD fs 2 0) (omega arith)),
+    )

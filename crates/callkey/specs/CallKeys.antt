@@ -16,9 +16,9 @@ use Rattle.callkey.specs.declared.Unpacked.the-variants as unpacked
 abbrev pub widths : List ℕ
 widths = 16 ∷ 16 ∷ 17 ∷ 15 ∷ []
 
--- the largest planned second
+-- the largest planned second: a service day is thirty hours long (request Two)
 abbrev pub lastSecond : ℕ
-lastSecond = 86399
+lastSecond = 107999
 
 -- what the packer and the unpacker say, in document 01's numbers
 pub data Said : Type 0 where

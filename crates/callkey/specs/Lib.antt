@@ -3,3 +3,4 @@ pub mod Fields
 pub mod CallKeys
 pub mod Demands
 pub mod Determined
+pub mod Vouched

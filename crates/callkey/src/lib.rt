@@ -6,7 +6,11 @@ ghost use mathlib.Core.Path.{_≡_};
 ghost use Rattle.callkey.specs.CallKeys.{saidByPacker, packSays, saidByUnpacker, unpackSays};
 use refusals::Refusal;
 
-// What a planned call is: a day, a stop, a second of the day and the block that runs it.
+// The largest planned second, 29:59:59: a service day is thirty hours long, so a tram that runs after midnight still
+// belongs to the day on which it left. The field's 17 bits would hold more.
+const LAST_SECOND: u32 = 107_999;
+
+// What a planned call is: a day, a stop, a second of the service day and the block that runs it.
 pub struct Fields {
     pub day: u32,
     pub stop: u32,
@@ -34,7 +38,7 @@ pub fn pack(day: u32, stop: u32, second: u32, block: u32) -> Packed
     if 65535 < stop {
         return Packed::Refused(Refusal::Field);
     }
-    if 86399 < second {
+    if LAST_SECOND < second {
         return Packed::Refused(Refusal::Field);
     }
     if 32767 < block {
@@ -52,15 +56,15 @@ pub fn unpack(key: u64) -> Unpacked
     let after_day = key % 0x1_0000_0000_0000;
     let stop = after_day / 0x1_0000_0000;
     let after_stop = after_day % 0x1_0000_0000;
-    let second = after_stop / 0x8000;
+    let second = (after_stop / 0x8000) as u32;
     let block = after_stop % 0x8000;
-    if second > 86399 {
+    if second > LAST_SECOND {
         return Unpacked::Refused(Refusal::Field);
     }
     Unpacked::Fields(Fields {
         day: day as u32,
         stop: stop as u32,
-        second: second as u32,
+        second,
         block: block as u32,
     })
 }

@@ -40,15 +40,18 @@ fn pack_all() {
     packed(1, 2, 3, 4);
     packed(0, 0, 0, 0);
     packed(65535, 65535, 86399, 32767);
+    packed(65535, 65535, 107999, 32767);
     packed(65536, 0, 0, 0);
     packed(0, 65536, 0, 0);
     packed(0, 0, 86400, 0);
     packed(0, 0, 107999, 0);
     packed(0, 0, 108000, 0);
+    packed(0, 0, 131071, 0);
     packed(0, 0, 131072, 0);
     packed(0, 0, 0, 32768);
     packed(4294967295, 4294967295, 4294967295, 4294967295);
     packed(20411, 17, 12600, 204);
+    packed(20411, 17, 88895, 205);
 }
 
 fn unpack_all() {
@@ -59,8 +62,11 @@ fn unpack_all() {
     unpacked(0xFFFF_FFFF_A8C0_0000);
     unpacked(0x0000_0000_D2EF_FFFF);
     unpacked(0x0000_0000_D2F0_0000);
+    unpacked(0xFFFF_FFFF_D2EF_FFFF);
+    unpacked(0x0000_0000_FFFF_8000);
     unpacked(0xFFFF_FFFF_FFFF_FFFE);
     unpacked(0x4FBB_0011_189C_00CC);
+    unpacked(0x4FBB_0011_AD9F_80CD);
     unpacked(0x8000_0000_0000_0000);
 }
 

@@ -73,6 +73,27 @@ fn timetable(n: usize, gen: &mut Gen) -> Vec<u64> {
     })
 }
 
+/// The Quarry Lane case, which is also the example: a plan of five trams at three stops, the last tram after midnight.
+/// Asked are its calls at Quarry Lane, and trams that stand in the siding there with their doors open.
+fn quarry_lane() -> (Vec<u64>, Vec<u64>) {
+    let at = |hour: u32, minute: u32| (60 * hour + minute) * 60;
+    let key = |stop, second, block| {
+        pack(Fields { day: 20_411, stop, second, block }).expect("the fields of a plan fit")
+    };
+    // The second at which each block leaves stop 16; it calls at 17, Quarry Lane, and at 18, 95 seconds apart.
+    let trams =
+        [(201, at(5, 30)), (202, at(5, 40)), (203, at(5, 50)), (204, at(6, 0)), (205, at(24, 40))];
+    let calls = |stop| trams.map(|(block, start)| key(stop, start + 95 * (stop - 16), block));
+    let stabled = [
+        key(17, at(3, 30), 299),
+        key(17, at(3, 45), 298),
+        // At the very second of a planned call, and after the last one.
+        key(17, at(5, 40) + 95, 299),
+        key(17, at(25, 15), 298),
+    ];
+    ([calls(16), calls(17), calls(18)].concat(), [&calls(17)[..], &stabled].concat())
+}
+
 /// Asks at, below and above rows, near them and far from them, cut to a number of asks.
 pub fn asks(keys: &[u64], count: usize, gen: &mut Gen) -> Vec<u64> {
     let mut asks = vec![0, u64::MAX, 1 << 63];
@@ -102,6 +123,8 @@ pub fn cases() -> Vec<Case> {
 
     add("document-example".into(), 2, &[2, 3, 8], &[3, 9, 16, 0]);
     add("document-example-no-asks".into(), 2, &[2, 3, 8], &[]);
+    let (planned, events) = quarry_lane();
+    add("quarry-lane".into(), 4, &planned, &events);
     for bucket in BUCKETS {
         let keys = eleven_keys();
         let mut around = keys.clone();

@@ -19,4 +19,4 @@ returns-2 c = simp (le-ltb lastSecond (c .before .args .key % 2 ^ 48 % 2 ^ 32 / 
 pub unpack-spec : {M : Type 1} → statement M
 unpack-spec =
     tie.close
-    (tie.spec returns (λ c. search needs) (λ c. search needs) (λ c. search needs) (λ c. search needs) returns-2)
+    (tie.spec (λ c. search needs) returns (λ c. search needs) (λ c. search needs) (λ c. search needs) returns-2)
