@@ -1,12 +1,12 @@
 // An unverified twin of the proved library in plain C: the same algorithms (an item is hashed three times and taken out when its turn
-// comes, the seed is mixed once for a map, remainders come from one reciprocal for a map, the 2-fattest number by trial of powers of two),
+// comes, the seed is mixed once for a map, remainders come from one reciprocal for a map, the 2-fattest number from the highest differing bit),
 // the same memory (u64 keys, u16 cells, left, right and work) and the same checks in the same order. Items are computed and not stored, as
 // only 16-bit numbers are lent. So what is left of a difference is what the proved code's form costs.
 //
 // Variants, for finding out what a choice is worth (none is defined for the comparison):
 //   DIVISION      remainders by M from a division for each, and not from the reciprocal of M
-//   HIGHEST_BIT   the 2-fattest number from the highest differing bit of the two ends, and not by trial
 //   SPECIALISED   the map builder compiled once for each kind of items, and not with a switch in its loops
+//   TRIAL         the 2-fattest number by trial of powers of two, and not from the highest differing bit of the two ends
 #include "entries.h"
 
 #define MOST 32768
@@ -35,13 +35,14 @@ static inline u64 prefix_item(u64 x, unsigned l) {
 
 // The 2-fattest f with a < f <= b <= 64.
 static inline unsigned fattest(unsigned a, unsigned b) {
-#ifdef HIGHEST_BIT
-    return b & ~0u << (31 - __builtin_clz(a ^ b));
-#else
+#ifdef TRIAL
     unsigned p = 64;
     while ((b & -p) <= a)
         p /= 2;
     return b & -p;
+#else
+    unsigned k = 31 - __builtin_clz(a ^ b);
+    return b >> k << k;
 #endif
 }
 

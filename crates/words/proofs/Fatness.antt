@@ -2,15 +2,16 @@
 use mathlib.Core.Path.{_≡_, refl, sym, _∙_}
 use mathlib.Core.Bool.{Bool, true, false, cond}
 use Prim.Native.Nat.{ℕ, zero, suc, _+_, _-_, _*_, _/_, _%_, _^_, _≤_, _<_}
-use native.Mathlib.Nat.{le-dest, zero-mod, mul-mod-left, div-mul-le-self, div-add-mod', lt-of-mul-lt-mul-right, pow-suc}
+use native.Mathlib.Nat.{le-dest, zero-mod, mul-mod-left, div-mul-le-self, div-add-mod', div-lt-iff-lt-mul, lt-of-mul-lt-mul-right, lt-of-le-of-lt, mod-eq-of-lt, pow-suc}
 use native.Mathlib.Decide.{decLe}
 use native.Mathlib.Omega.{arith}
 use borrow.Author.Tests.{ltb-true, ltb-false}
 use lib.Dec.{ltb}
-use lib.Pow.{mod-mod-pow, shr-mono}
+use lib.Pow.{pow-pos, mod-mod-pow, shr-mono}
+use Rattle.words.specs.Keys.{sharedBits}
 use Rattle.words.specs.Fat.{Fattest, lastMultiple, fattestFrom}
 use Rattle.words.specs.Vouched.{FattestFound}
-use Rattle.words.proofs.Sharing.{halve}
+use Rattle.words.proofs.Sharing.{halve, shared-lt, parting}
 
 -- a multiple of a power is one of each lower power
 pub multiple-down : (n j k : ℕ) → j ≤ k → n % 2 ^ k ≡ 0 → n % 2 ^ j ≡ 0
@@ -50,6 +51,21 @@ fattest-at a b k h l =
           let same : q ≡ n = omega (arith, shr-mono k gb) in
           rw (← same) (omega (arith, div-add-mod' g p));
     }
+
+-- it is b without the digits below the highest one in which the ends differ
+pub fattest-parting : (a b : ℕ) → a < b → b < 2 ^ 64 → Fattest a b (lastMultiple (63 - sharedBits a b) b)
+fattest-parting a b h hb =
+    let k = 63 - sharedBits a b in
+    let ha : a < 2 ^ 64 = omega arith in
+    let p = parting a b ha hb h k (omega (arith, shared-lt a b ha hb h)) in
+    fattest-at a b k (div-lt-iff-lt-mul (pow-pos k) .0 (p .1)) (rw (← (p .0)) (div-mul-le-self a (2 ^ suc k)))
+
+-- as two shifts make it, for nothing is shifted out at the top
+pub fattest-shifted : (a b : ℕ) → a < b → b < 2 ^ 64
+    → Fattest a b (lastMultiple (63 - sharedBits a b) b % 2 ^ 64)
+fattest-shifted a b h hb =
+    let k = 63 - sharedBits a b in
+    rw (mod-eq-of-lt (lt-of-le-of-lt (div-mul-le-self b (2 ^ k)) hb)) (fattest-parting a b h hb)
 
 -- trial finds it: where no multiple of 2 ^ (k + 1) lies there, the first power from 2 ^ k down that has one is the
 -- highest

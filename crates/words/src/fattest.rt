@@ -2,15 +2,12 @@
 ghost use Prim.Native.Nat.{_≤_, _<_};
 ghost use Rattle.words.specs.Fat.{Fattest};
 
-// The number with a < r <= b that is divisible by the highest power of two, by trial: the largest power of which a
-// multiple lies there.
+// The number with a < r <= b that is divisible by the highest power of two: b, cleared below the highest bit in which
+// the two ends differ.
 pub fn fattest(a: u64, b: u64) -> u64
     requires { ⌜ (a < b) × (b ≤ 64) ⌝ }
     ensures { λ r. ⌜ Fattest a b r ⌝ }
 {
-    let mut p: u64 = 64;
-    while b / p * p <= a {
-        p = p / 2;
-    }
-    b / p * p
+    let k = 63 - u64::leading_zeros(a ^ b);
+    b >> k << k
 }
