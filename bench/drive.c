@@ -1,20 +1,23 @@
 // Runs one kind of work on the entries of entries.h, so that its instructions can be counted. Freestanding: no libc, so that the proved
 // library and the twin run in the same few hundred instructions of surroundings, linked static at fixed addresses.
 //
-//   drive TABLE N B WORK TIMES CALLSEED NEARSEED
+//   drive TABLE N B WORK TIMES SEED1 SEED2 SEED3
 //   TABLE  t: calls of a timetable; r: random 64-bit keys
-//   WORK   s: find the first seed that each build takes, and digest stores and answers (for comparing two programs)
-//          c, n: TIMES call builds, neighbour builds
-//          H, M, R: one call build, then TIMES call asks of hits, near misses, random keys
-//          h, m, r: one neighbour build, then TIMES neighbour asks of them
+//   WORK   s: find seeds that the build takes, and digest stores and answers (for comparing two programs)
+//          f: TIMES full builds
+//          H, M, R: one full build, then TIMES call asks of hits, near misses, random keys
+//          h, m, r: one full build, then TIMES neighbour asks of them
 // TIMES is at most 32,768.
 #include "entries.h"
 
 #define MOST 32768
 #define CELLS 41295
+#define BEYOND 16
 
-static u64 keys[MOST], asks[MOST];
-static u16 cells[2 * CELLS], handles[CELLS], left[MOST], right[MOST], work[2 * CELLS + 2 * MOST];
+static u64 keys[MOST], asks[MOST], seeds[4]; // the seed of map m at m
+static u16 cells[2 * CELLS + BEYOND], handles[CELLS + BEYOND], left[MOST + BEYOND], right[MOST + BEYOND], work[2 * CELLS + 2 * MOST + BEYOND];
+static u16 *const store[5] = {cells, handles, left, right, work};
+static size_t named[5], lent[5]; // the named length of each store, and how much of it is lent
 
 // What compilers ask for.
 __attribute__((used)) void *memset(void *p, int c, size_t n) {
@@ -106,75 +109,98 @@ static void choose(size_t n, int what) {
 static u64 digest;
 static void note(u64 v) { digest = (digest ^ v) * 0xBF58476D1CE4E5B9 + 1, digest ^= digest >> 31; }
 
-static u64 call_build(size_t n, u64 b, u64 seed) {
-    return index_call_build(keys, n, b, seed, seed, cells, sizeof cells / 2, work, sizeof work / 2);
+static size_t cell_count(size_t t) { return 3 * (42 * t / 100 + 3); }
+static void lend(size_t n, u64 b) {
+    size_t lengths[5] = {cell_count(n) + cell_count((n + b - 1) / b), cell_count(n < 2 ? 0 : n - 2), n, n, 2 * cell_count(n) + 2 * n};
+    for (int i = 0; i < 5; i++) named[i] = lengths[i], lent[i] = lengths[i] + BEYOND;
 }
-static u64 near_build(size_t n, u64 seed) {
-    return index_neighbour_build(keys, n, seed, handles, CELLS, left, MOST, right, MOST, work, sizeof work / 2);
+static u64 build(size_t n, u64 b) {
+    return index_full_build(keys, n, b, seeds[1], seeds[2], seeds[3], cells, lent[0], handles, lent[1], left, lent[2], right, lent[3], work, lent[4]);
 }
-static u64 call_ask(size_t n, u64 b, u64 seed, u64 x) { return index_call_ask(keys, n, b, seed, seed, cells, sizeof cells / 2, x); }
-static u64 near_ask(size_t n, u64 seed, u64 x) {
-    return index_neighbour_ask(keys, n, seed, handles, CELLS, left, MOST, right, MOST, x);
+static u64 call_ask(size_t n, u64 b, u64 x) { return index_call_ask(keys, n, b, seeds[1], seeds[2], cells, lent[0], x); }
+static u64 near_ask(size_t n, u64 x) { return index_neighbour_ask(keys, n, seeds[3], handles, lent[1], left, lent[2], right, lent[3], x); }
+
+// A build over stores that hold random numbers: what it says, and what it leaves there and beyond. Which filling of the cells is written would
+// be free; the same algorithm writes the same one.
+static u64 tried(size_t n, u64 b) {
+    for (int i = 0; i < 5; i++)
+        for (size_t j = 0; j < named[i] + BEYOND; j++) store[i][j] = random();
+    u64 said = build(n, b);
+    note(said);
+    for (int i = 0; i < 5; i++)
+        for (size_t j = 0; j < named[i] + BEYOND; j++) note(store[i][j]);
+    return said;
+}
+// Stores as long as named, each of them one entry shorter, all of them empty; then each refusal beside those that come after it.
+static void refusals(size_t n, u64 b) {
+    for (int i = 0; i < 5; i++) lent[i] = named[i];
+    tried(n, b);
+    for (int i = 0; i < 5; i++) lent[i]--, tried(n, b), lent[i]++;
+    for (int i = 0; i < 5; i++) lent[i] = 0;
+    tried(n, b);
+    if (n > 1) keys[n / 2] = keys[n / 2 - 1];
+    tried(n, b), tried(n, 1), tried(n, 257), tried(MOST + 1, 1);
 }
 
-// All that two programs have to agree on: the seeds that are refused, the bounds, the answers, the work left, then the answers over damaged
-// stores and the refusals.
+// All that two programs have to agree on: what builds say and leave, for seeds that jam too; the answers; then the answers over damaged stores
+// and the refusals.
 static void compare(size_t n, u64 b, size_t times) {
-    u64 seed = 0, near = 0, probes = 0, found = 0;
-    for (; call_build(n, b, seed); seed++) note(call_build(n, b, seed));
-    for (; near_build(n, near); near++) note(near_build(n, near));
-    print("call=", seed), print("near=", near);
-    for (size_t i = 0; i < MOST; i++) note(left[i]), note(right[i]);
+    u64 probes = 0, found = 0, said;
+    tried(0, b);
+    for (u64 seed = 0; n <= 500 && seed < 64; seed++) { // small maps jam often
+        seeds[1] = seeds[2] = seeds[3] = seed;
+        tried(n, b);
+    }
+    // Seeds that differ, so that one can't stand for another; the seed of the map that is named goes up.
+    for (u64 m = 1; m < 4; m++) seeds[m] = m - 1;
+    while ((said = tried(n, b)) && seeds[said & 3] < 100) seeds[said & 3]++;
+    print("seed1=", seeds[1]), print("seed2=", seeds[2]), print("seed3=", seeds[3]);
     for (int k = 0; k < 3; k++) {
         choose(n, k);
         for (size_t i = 0; i < times; i++) {
-            u64 c = call_ask(n, b, seed, asks[i]), p = near_ask(n, near, asks[i]);
+            u64 c = call_ask(n, b, asks[i]), p = near_ask(n, asks[i]);
             note(c), note(p), found += c != ABSENT, probes += p >> 32 & 255;
         }
     }
     print("found=", found), print("probes=", probes);
-    for (size_t i = 0; i < sizeof work / 2; i++) note(work[i]);
     for (size_t i = 0; i < MOST; i++) {
         left[i] ^= random() >> 63 << random() % 16;
         right[i] ^= random() >> 63;
         cells[i] ^= random();
         handles[i] ^= random() & random() & random();
     }
-    for (size_t i = 0; i < times; i++) note(call_ask(n, b, seed, asks[i])), note(near_ask(n, near, asks[i]));
+    for (size_t i = 0; i < times; i++) note(call_ask(n, b, asks[i])), note(near_ask(n, asks[i]));
     note(index_call_ask(keys, n, 1, 0, 0, cells, 9, 0));
     note(index_call_ask(keys, n, 2, 0, 0, cells, 9, 0));
     note(index_call_ask(keys, MOST + 1, 2, 0, 0, cells, 9, 0));
     note(index_neighbour_ask(keys, n, 0, handles, 1, left, MOST, right, MOST, 0));
     note(index_neighbour_ask(keys, n, 0, handles, CELLS, left, 0, right, MOST, 0));
     note(index_neighbour_ask(keys, n, 0, handles, CELLS, left, MOST, right, 0, 0));
-    if (n > 2) keys[n / 2] = keys[n / 2 - 1];
-    note(call_build(n, b, seed)), note(near_build(n, near));
+    refusals(n, b);
 }
 
 __attribute__((used)) static void start(char **argv) {
     size_t n = number(argv[2]), b = number(argv[3]), times = number(argv[5]);
-    u64 seed = number(argv[6]), near = number(argv[7]);
     char what = argv[4][0];
+    for (int m = 1; m < 4; m++) seeds[m] = number(argv[5 + m]);
     if (argv[1][0] == 't') timetable(n); else spread(n);
+    lend(n, b);
     switch (what) {
     case 's':
         compare(n, b, times);
         break;
-    case 'c':
-        for (size_t i = 0; i < times; i++) note(call_build(n, b, seed));
-        break;
-    case 'n':
-        for (size_t i = 0; i < times; i++) note(near_build(n, near));
+    case 'f':
+        for (size_t i = 0; i < times; i++) note(build(n, b));
         break;
     case 'H': case 'M': case 'R':
         choose(n, what == 'H' ? 0 : what == 'M' ? 1 : 2);
-        note(call_build(n, b, seed));
-        for (size_t i = 0; i < times; i++) note(call_ask(n, b, seed, asks[i]));
+        note(build(n, b));
+        for (size_t i = 0; i < times; i++) note(call_ask(n, b, asks[i]));
         break;
     case 'h': case 'm': case 'r':
         choose(n, what == 'h' ? 0 : what == 'm' ? 1 : 2);
-        note(near_build(n, near));
-        for (size_t i = 0; i < times; i++) note(near_ask(n, near, asks[i]));
+        note(build(n, b));
+        for (size_t i = 0; i < times; i++) note(near_ask(n, asks[i]));
         break;
     }
     print("digest=", digest);

@@ -57,8 +57,10 @@ template <class F> static double least(size_t turns, int rounds, F f) {
     }
     return best;
 }
+// A build below 0 is one that a row above has.
 template <class F> static void row(const char *name, double build, const std::vector<u64> *asks, F ask) {
-    std::printf("%-34s %8.1f", name, build);
+    if (build < 0) std::printf("%-34s %8s", name, "above");
+    else std::printf("%-34s %8.1f", name, build);
     for (int k = 0; k < 3; k++) {
         const std::vector<u64> &q = asks[k];
         double free_ = least(q.size(), 15, [&] {
@@ -85,28 +87,27 @@ int main(int argc, char **argv) {
         do near ^= i % 2 ? 1 + random64() % 15 : (u64)3 << 15; while (std::binary_search(keys.begin(), keys.end(), near));
         asks[0].push_back(k), asks[1].push_back(near), asks[2].push_back(random64());
     }
-    std::printf("\nn = %zu, %s; ns: build a key; asks of hits, near misses, random keys, each independent and chained\n\n", n, kind == 't' ? "timetable" : "random keys");
+    std::printf("\nn = %zu, %s; ns: build a key (the twin's makes both indexes); asks of hits, near misses, random keys, each independent and chained\n\n", n,
+                kind == 't' ? "timetable" : "random keys");
     std::printf("%-34s %8s  %7s %7s  %7s %7s  %7s %7s\n", "", "build", "hit", "chained", "near", "chained", "random", "chained");
 
     const size_t cells_n = 2 * 41295, handles_n = 41295, work_n = 2 * 41295 + 2 * 32768;
     std::vector<u16> cells(cells_n), handles(handles_n), left(n), right(n), work(work_n);
+    u64 seeds[4]; // the seed of map m at m
     for (size_t b : {2, 16, 256}) {
-        u64 seed = 0;
-        auto build = [&] { return index_call_build(keys.data(), n, b, seed, seed, cells.data(), cells_n, work.data(), work_n); };
-        while (build()) seed++;
-        double t = least(n, 9, build);
+        auto build = [&] {
+            return index_full_build(keys.data(), n, b, seeds[1], seeds[2], seeds[3], cells.data(), cells_n, handles.data(), handles_n, left.data(), n,
+                                    right.data(), n, work.data(), work_n);
+        };
+        seeds[1] = seeds[2] = seeds[3] = 0;
+        while (u64 said = build()) seeds[said & 3]++; // a refusal names the map that jams
+        double t = least(n, 15, build);
         row(("call index (twin), B=" + std::to_string(b)).c_str(), t, asks,
-            [&](u64 x) { return index_call_ask(keys.data(), n, b, seed, seed, cells.data(), cells_n, x); });
+            [&](u64 x) { return index_call_ask(keys.data(), n, b, seeds[1], seeds[2], cells.data(), cells_n, x); });
     }
-    {
-        u64 seed = 0;
-        auto build = [&] { return index_neighbour_build(keys.data(), n, seed, handles.data(), handles_n, left.data(), n, right.data(), n, work.data(), work_n); };
-        while (build()) seed++;
-        double t = least(n, 9, build);
-        row("neighbour index (twin)", t, asks, [&](u64 x) {
-            return index_neighbour_ask(keys.data(), n, seed, handles.data(), handles_n, left.data(), n, right.data(), n, x);
-        });
-    }
+    row("neighbour index (twin)", -1, asks, [&](u64 x) {
+        return index_neighbour_ask(keys.data(), n, seeds[3], handles.data(), handles_n, left.data(), n, right.data(), n, x);
+    });
     row("std::lower_bound (rank and row)", 0, asks, [&](u64 x) { return (u64)(std::lower_bound(keys.begin(), keys.end(), x) - keys.begin()); });
     row("binary search without branches", 0, asks, [&](u64 x) {
         const u64 *base = keys.data();
@@ -125,7 +126,7 @@ int main(int argc, char **argv) {
             map.reserve(n);
             for (size_t i = 0; i < n; i++) map.emplace(keys[i], i);
         };
-        double t = least(n, 5, build);
+        double t = least(n, 15, build);
         row("std::unordered_map (row or absent)", t, asks, [&](u64 x) {
             auto it = map.find(x);
             return it == map.end() ? ABSENT : it->second;
@@ -139,7 +140,7 @@ int main(int argc, char **argv) {
             map.reserve(n);
             for (size_t i = 0; i < n; i++) map.emplace(keys[i], i);
         };
-        double t = least(n, 5, build);
+        double t = least(n, 15, build);
         row("absl::flat_hash_map (row or absent)", t, asks, [&](u64 x) {
             auto it = map.find(x);
             return it == map.end() ? ABSENT : it->second;
@@ -158,7 +159,7 @@ int main(int argc, char **argv) {
             cmph_config_destroy(config);
             cmph_io_struct_vector_adapter_destroy(source);
         };
-        double t = least(n, 5, build);
+        double t = least(n, 15, build);
         if (!hash) return 1;
         row("cmph CHM (a row for every key)", t, asks, [&](u64 x) { return (u64)cmph_search(hash, (const char *)&x, sizeof x); });
         row("cmph CHM, key compared", t, asks, [&](u64 x) {
@@ -184,7 +185,7 @@ int main(int argc, char **argv) {
             J1FA(freed, set);
             for (size_t i = 0; i < n; i++) J1S(rc, set, keys[i]);
         };
-        double t = least(n, 5, build_rows), t1 = least(n, 5, build_set);
+        double t = least(n, 15, build_rows), t1 = least(n, 15, build_set);
         row("JudyL (row or absent)", t, asks, [&](u64 x) {
             PWord_t v = (PWord_t)JudyLGet(rows, x, PJE0);
             return v ? (u64)*v : ABSENT;

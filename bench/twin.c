@@ -5,7 +5,7 @@
 //
 // Variants, for finding out what a choice is worth (none is defined for the comparison):
 //   DIVISION      remainders by M from a division for each, and not from the reciprocal of M
-//   SPECIALISED   the map builder compiled once for each kind of items, and not with a switch in its loops
+//   SPECIALISED   the map builder compiled once for each kind of items, and not with a switch in what its loops call
 //   TRIAL         the 2-fattest number by trial of powers of two, and not from the highest differing bit of the two ends
 #include "entries.h"
 
@@ -109,6 +109,16 @@ static inline unsigned len_at(const u64 *keys, size_t m) { return shared(keys[m 
 
 // ---- the items of each map
 
+// A specialised builder is a function of its own with all its parts in it: left to itself the compiler keeps the cells of an item out of
+// line, and the switch with them.
+#ifdef SPECIALISED
+#define PART __attribute__((always_inline)) static inline
+#define WHOLE __attribute__((noinline)) static
+#else
+#define PART static inline
+#define WHOLE static inline
+#endif
+
 enum kind { KEYS, PREFIXES, HANDLES };
 
 struct map {
@@ -123,7 +133,7 @@ struct map {
 
 static inline size_t handle_split(const u16 *left, size_t i) { return i + 1 < left[0] ? i + 1 : i + 2; }
 
-static inline u64 item_at(const struct map *p, size_t i) {
+PART u64 item_at(const struct map *p, size_t i) {
     const u64 *keys = p->keys;
     switch (p->kind) {
     case KEYS:
@@ -142,7 +152,7 @@ static inline u64 item_at(const struct map *p, size_t i) {
     }
 }
 
-static inline u16 value_at(const struct map *p, size_t i) {
+PART u16 value_at(const struct map *p, size_t i) {
     switch (p->kind) {
     case KEYS:
         return 256 * bucket_length(p->keys, p->n, p->b, i / p->b) + i % p->b;
@@ -155,8 +165,8 @@ static inline u16 value_at(const struct map *p, size_t i) {
 
 // ---- the build of one map
 
-static inline u64 hash_at(const struct map *p, size_t i) { return mixed_hash(item_at(p, i), p->mixed); }
-static inline struct touched cells_at(const struct map *p, size_t i) { return touched_by(hash_at(p, i), p->m, p->r); }
+PART u64 hash_at(const struct map *p, size_t i) { return mixed_hash(item_at(p, i), p->mixed); }
+PART struct touched cells_at(const struct map *p, size_t i) { return touched_by(hash_at(p, i), p->m, p->r); }
 
 // Of each cell the items left and the xor of their numbers; of each item 0, or 1 more than the cell at which it got its turn; the turns.
 struct work {
@@ -176,11 +186,7 @@ static inline void try_cell(struct work *w, size_t c) {
 }
 
 // The answer is how many items are in the largest jam, 0 where the map is built.
-#ifdef SPECIALISED
-__attribute__((always_inline))
-#endif
-static inline size_t
-build_map(struct map *p, u64 seed, u16 *cells, u16 *work) {
+PART size_t build_map(struct map *p, u64 seed, u16 *cells, u16 *work) {
     size_t t = p->t, m = p->m = segment_size(t), all = 3 * m;
     p->mixed = mix_seed(seed), p->r = reciprocal(m);
     struct work w = {work, work + all, work + 2 * all, work + 2 * all + t, 0};
@@ -213,10 +219,55 @@ build_map(struct map *p, u64 seed, u16 *cells, u16 *work) {
     return t - w.turns;
 }
 
+// Map 1, map 2 and map 3.
+WHOLE size_t build_keys(const u64 *keys, size_t n, size_t b, u64 seed, u16 *cells, u16 *work) {
+    struct map p = {.kind = KEYS, .keys = keys, .n = n, .b = b, .t = n};
+    return build_map(&p, seed, cells, work);
+}
+WHOLE size_t build_prefixes(const u64 *keys, size_t n, size_t b, size_t k, u64 seed, u16 *cells, u16 *work) {
+    struct map p = {.kind = PREFIXES, .keys = keys, .n = n, .b = b, .t = k};
+    return build_map(&p, seed, cells, work);
+}
+WHOLE size_t build_handles(const u64 *keys, size_t n, const u16 *left, const u16 *right, size_t t, u64 seed, u16 *handles, u16 *work) {
+    struct map p = {.kind = HANDLES, .keys = keys, .n = n, .left = left, .right = right, .t = t};
+    return build_map(&p, seed, handles, work);
+}
+
+// ---- the bounds of the splits
+
+// The rows of each split, by jumping over the rows of longer ones; entry 0 of left is the root.
+static inline void build_bounds(const u64 *keys, size_t n, u16 *left, u16 *right) {
+    if (n == 0)
+        return;
+    for (size_t m = 1; m < n; m++) {
+        unsigned l = len_at(keys, m);
+        size_t j = m - 1;
+        while (j > 0 && len_at(keys, j) >= l)
+            j = left[j];
+        left[m] = j;
+    }
+    for (size_t m = n - 1; m > 0; m--) {
+        unsigned l = len_at(keys, m);
+        size_t j = m + 1;
+        while (j < n && len_at(keys, j) >= l)
+            j = right[j];
+        right[m] = j;
+    }
+    size_t root = 0;
+    unsigned least = 65;
+    for (size_t m = 1; m < n; m++) {
+        unsigned l = len_at(keys, m);
+        if (l < least)
+            least = l, root = m;
+    }
+    left[0] = root;
+    right[0] = 0;
+}
+
 // ---- the entries
 
-
-u64 index_call_build(const u64 *keys, size_t n, size_t b, u64 seed1, u64 seed2, u16 *cells, size_t cells_n, u16 *work, size_t work_n) {
+u64 index_full_build(const u64 *keys, size_t n, size_t b, u64 seed1, u64 seed2, u64 seed3, u16 *cells, size_t cells_n, u16 *handles,
+                     size_t handles_n, u16 *left, size_t left_n, u16 *right, size_t right_n, u16 *work, size_t work_n) {
     if (n > MOST)
         return REFUSED(1, 0);
     if (b < 2 || b > 256)
@@ -224,16 +275,29 @@ u64 index_call_build(const u64 *keys, size_t n, size_t b, u64 seed1, u64 seed2, 
     size_t row = first_fall(keys, n);
     if (row > 0)
         return REFUSED(3, row);
-    size_t k = bucket_count(n, b), c = cell_count(n), all = c + cell_count(k);
-    if (cells_n < all)
+    size_t k = bucket_count(n, b), t = handle_count(n), c = cell_count(n), cells_all = c + cell_count(k), handles_all = cell_count(t);
+    if (cells_n < cells_all)
         return REFUSED(4, 1);
+    if (handles_n < handles_all)
+        return REFUSED(4, 2);
+    if (left_n < n)
+        return REFUSED(4, 3);
+    if (right_n < n)
+        return REFUSED(4, 4);
     if (work_n < 2 * c + 2 * n)
         return REFUSED(4, 5);
-    struct map one = {.kind = KEYS, .keys = keys, .n = n, .b = b, .t = n}, two = {.kind = PREFIXES, .keys = keys, .n = n, .b = b, .t = k};
-    u64 jammed = build_map(&one, seed1, cells, work) > 0 ? 1 : build_map(&two, seed2, cells + c, work) > 0 ? 2 : 0;
-    if (!jammed)
-        return 0;
-    __builtin_memset(cells, 0, all * sizeof *cells);
+    u64 jammed = build_keys(keys, n, b, seed1, cells, work) > 0 ? 1 : build_prefixes(keys, n, b, k, seed2, cells + c, work) > 0 ? 2 : 0;
+    if (!jammed) {
+        build_bounds(keys, n, left, right);
+        if (build_handles(keys, n, left, right, t, seed3, handles, work) == 0)
+            return 0;
+        jammed = 3;
+    }
+    // The work is 0 already: each map leaves it so, and map 1 takes all of its named length.
+    __builtin_memset(cells, 0, cells_all * sizeof *cells);
+    __builtin_memset(handles, 0, handles_all * sizeof *handles);
+    __builtin_memset(left, 0, n * sizeof *left);
+    __builtin_memset(right, 0, n * sizeof *right);
     return REFUSED(5, jammed);
 }
 
@@ -251,56 +315,6 @@ u64 index_call_ask(const u64 *keys, size_t n, size_t b, u64 seed1, u64 seed2, co
         return ABSENT;
     size_t row = look_up(cells + c, k, seed2, prefix_item(x, length)) * b + offset;
     return row < n && keys[row] == x ? row : ABSENT;
-}
-
-u64 index_neighbour_build(const u64 *keys, size_t n, u64 seed3, u16 *handles, size_t handles_n, u16 *left, size_t left_n, u16 *right,
-                   size_t right_n, u16 *work, size_t work_n) {
-    if (n > MOST)
-        return REFUSED(1, 0);
-    size_t row = first_fall(keys, n);
-    if (row > 0)
-        return REFUSED(3, row);
-    size_t t = handle_count(n), all = cell_count(t);
-    if (handles_n < all)
-        return REFUSED(4, 2);
-    if (left_n < n)
-        return REFUSED(4, 3);
-    if (right_n < n)
-        return REFUSED(4, 4);
-    if (work_n < 2 * all + 2 * t)
-        return REFUSED(4, 5);
-    if (n > 0) {
-        // The rows of each split, by jumping over the rows of longer ones.
-        for (size_t m = 1; m < n; m++) {
-            unsigned l = len_at(keys, m);
-            size_t j = m - 1;
-            while (j > 0 && len_at(keys, j) >= l)
-                j = left[j];
-            left[m] = j;
-        }
-        for (size_t m = n - 1; m > 0; m--) {
-            unsigned l = len_at(keys, m);
-            size_t j = m + 1;
-            while (j < n && len_at(keys, j) >= l)
-                j = right[j];
-            right[m] = j;
-        }
-        size_t root = 0;
-        unsigned least = 65;
-        for (size_t m = 1; m < n; m++) {
-            unsigned l = len_at(keys, m);
-            if (l < least)
-                least = l, root = m;
-        }
-        left[0] = root;
-        right[0] = 0;
-    }
-    struct map three = {.kind = HANDLES, .keys = keys, .n = n, .left = left, .right = right, .t = t};
-    if (build_map(&three, seed3, handles, work) == 0)
-        return 0;
-    __builtin_memset(left, 0, n * sizeof *left);
-    __builtin_memset(right, 0, n * sizeof *right);
-    return REFUSED(5, 3);
 }
 
 static inline u64 place(const u64 *keys, size_t n, u64 x, size_t before, u64 probes) {

@@ -2,8 +2,8 @@
 
 use crate::bits::{prefix_item, shared_bits};
 use crate::maps;
-use crate::refusal::{jam, judge_store, Refusal, BAD_BUCKET};
-use crate::table::{judge_count, judge_rising, MOST_KEYS};
+use crate::refusal::{judge_store, Refusal, BAD_BUCKET};
+use crate::table::{judge_count, MOST_KEYS};
 use std::ops::Range;
 
 fn is_bucket_size(bucket: usize) -> bool {
@@ -65,43 +65,14 @@ pub fn cells_named(n: usize, bucket: usize) -> usize {
     maps::cell_count(n) + maps::cell_count(bucket_count(n, bucket))
 }
 
-/// The named length of the call build's work.
-pub fn work_named(n: usize) -> usize {
-    2 * maps::cell_count(n) + 2 * n
-}
-
-fn judge_limits(keys: &[u64], bucket: usize) -> Result<(), Refusal> {
+/// Refusals 1 and 2, of the number of keys and of the bucket size.
+pub fn judge_limits(keys: &[u64], bucket: usize) -> Result<(), Refusal> {
     judge_count(keys)?;
     if is_bucket_size(bucket) {
         Ok(())
     } else {
         Err(BAD_BUCKET)
     }
-}
-
-/// Builds maps 1 and 2, each under its own seed.
-pub fn build(
-    keys: &[u64],
-    bucket: usize,
-    seeds: [u64; 2],
-    cells: &mut [u16],
-    work: &mut [u16],
-) -> Result<(), Refusal> {
-    judge_limits(keys, bucket)?;
-    judge_rising(keys)?;
-    let n = keys.len();
-    let named = cells_named(n, bucket);
-    judge_store(1, cells, named)?;
-    judge_store(5, work, work_named(n))?;
-
-    // A jam leaves all stores 0, and work is 0 after acceptance too; nothing here needs work.
-    cells[..named].fill(0);
-    work[..work_named(n)].fill(0);
-    let first = maps::fill(&key_values(keys, bucket), seeds[0]).map_err(|_| jam(1))?;
-    let second = maps::fill(&bucket_values(keys, bucket), seeds[1]).map_err(|_| jam(2))?;
-    cells[..first.len()].copy_from_slice(&first);
-    cells[first.len()..named].copy_from_slice(&second);
-    Ok(())
 }
 
 /// The row of x, or none where x is absent.

@@ -4,6 +4,7 @@
 mod bits;
 mod call;
 mod cases;
+mod full;
 mod gen;
 mod keys;
 mod maps;

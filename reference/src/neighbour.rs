@@ -2,8 +2,8 @@
 
 use crate::bits::{agree, bit, prefix_item, shared_bits, two_fattest};
 use crate::maps;
-use crate::refusal::{jam, judge_store, Refusal, SPOILED_BOUNDS};
-use crate::table::{judge_count, judge_rising};
+use crate::refusal::{judge_store, Refusal, SPOILED_BOUNDS};
+use crate::table::judge_count;
 use std::ops::Range;
 
 /// How many leading bits rows m − 1 and m share.
@@ -69,15 +69,6 @@ pub fn wanted(keys: &[u64]) -> Wanted {
     wanted
 }
 
-/// The memory lent to a build; an ask reads all of it but work.
-#[derive(Clone, Debug, PartialEq, Eq)]
-pub struct Stores {
-    pub handles: Vec<u16>,
-    pub left: Vec<u16>,
-    pub right: Vec<u16>,
-    pub work: Vec<u16>,
-}
-
 /// t, the number of handles.
 pub fn handle_count(n: usize) -> usize {
     n.saturating_sub(2)
@@ -86,49 +77,6 @@ pub fn handle_count(n: usize) -> usize {
 /// The named length of the handle cells.
 pub fn handles_named(n: usize) -> usize {
     maps::cell_count(handle_count(n))
-}
-
-/// The named length of the neighbour build's work.
-pub fn work_named(n: usize) -> usize {
-    2 * handles_named(n) + 2 * handle_count(n)
-}
-
-impl Stores {
-    /// Stores of just the named lengths, all 0.
-    pub fn for_keys(n: usize) -> Stores {
-        Stores {
-            handles: vec![0; handles_named(n)],
-            left: vec![0; n],
-            right: vec![0; n],
-            work: vec![0; work_named(n)],
-        }
-    }
-
-    fn judge_read(&self, n: usize) -> Result<(), Refusal> {
-        judge_store(2, &self.handles, handles_named(n))?;
-        judge_store(3, &self.left, n)?;
-        judge_store(4, &self.right, n)
-    }
-}
-
-pub fn build(keys: &[u64], seed: u64, stores: &mut Stores) -> Result<(), Refusal> {
-    judge_count(keys)?;
-    judge_rising(keys)?;
-    let n = keys.len();
-    stores.judge_read(n)?;
-    judge_store(5, &stores.work, work_named(n))?;
-
-    // A jam leaves all stores 0, and work is 0 after acceptance too; nothing here needs work.
-    stores.handles[..handles_named(n)].fill(0);
-    stores.left[..n].fill(0);
-    stores.right[..n].fill(0);
-    stores.work[..work_named(n)].fill(0);
-    let wanted = wanted(keys);
-    let handles = maps::fill(&wanted.handles, seed).map_err(|_| jam(3))?;
-    stores.handles[..handles.len()].copy_from_slice(&handles);
-    stores.left[..n].copy_from_slice(&wanted.left);
-    stores.right[..n].copy_from_slice(&wanted.right);
-    Ok(())
 }
 
 #[derive(Clone, Debug, PartialEq, Eq)]
@@ -145,10 +93,19 @@ fn answer(keys: &[u64], x: u64, before: usize, probed: Vec<u32>) -> Answer {
 }
 
 /// The walk.
-pub fn ask(keys: &[u64], seed: u64, stores: &Stores, x: u64) -> Result<Answer, Refusal> {
+pub fn ask(
+    keys: &[u64],
+    seed: u64,
+    handles: &[u16],
+    left: &[u16],
+    right: &[u16],
+    x: u64,
+) -> Result<Answer, Refusal> {
     judge_count(keys)?;
     let n = keys.len();
-    stores.judge_read(n)?;
+    judge_store(2, handles, handles_named(n))?;
+    judge_store(3, left, n)?;
+    judge_store(4, right, n)?;
 
     if n == 0 {
         return Ok(answer(keys, x, 0, Vec::new()));
@@ -158,7 +115,7 @@ pub fn ask(keys: &[u64], seed: u64, stores: &Stores, x: u64) -> Result<Answer, R
         return Ok(answer(keys, x, before, Vec::new()));
     }
 
-    let root = usize::from(stores.left[0]);
+    let root = usize::from(left[0]);
     if root < 1 || root >= n || len(keys, root) > 63 {
         return Err(SPOILED_BOUNDS);
     }
@@ -175,7 +132,7 @@ pub fn ask(keys: &[u64], seed: u64, stores: &Stores, x: u64) -> Result<Answer, R
         let f = two_fattest(lower + 1, upper - 1);
         probed.push(f);
         let item = prefix_item(x, f);
-        let m = usize::from(maps::lookup(item, seed, handle_count(n), &stores.handles));
+        let m = usize::from(maps::lookup(item, seed, handle_count(n), handles));
         let accepted = 1 <= m && m < n && {
             let length = len(keys, m);
             f <= length && length < upper && agree(x, keys[m], length)
@@ -188,7 +145,7 @@ pub fn ask(keys: &[u64], seed: u64, stores: &Stores, x: u64) -> Result<Answer, R
         }
     }
 
-    let (a, m, b) = (usize::from(stores.left[node]), node, usize::from(stores.right[node]));
+    let (a, m, b) = (usize::from(left[node]), node, usize::from(right[node]));
     if !(a < m && m < b && b <= n) {
         return Err(SPOILED_BOUNDS);
     }

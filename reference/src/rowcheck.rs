@@ -1,7 +1,7 @@
 //! The program `rowcheck`: text in, text out.
 
+use crate::full::{self, Stores};
 use crate::refusal::{Refusal, BAD_TEXT};
-use crate::{call, neighbour};
 use std::fmt::Write;
 
 const SEEDS: u64 = 256;
@@ -75,23 +75,19 @@ pub fn parse(text: &[u8]) -> Result<Input, Refusal> {
 
 pub struct Built {
     pub seed: u64,
-    pub cells: Vec<u16>,
-    pub stores: neighbour::Stores,
+    pub stores: Stores,
 }
 
 /// Both indexes under one seed for all maps.
 pub fn build_with(keys: &[u64], bucket: usize, seed: u64) -> Result<Built, Refusal> {
-    let n = keys.len();
-    // A bucket size that the build refuses has no named length, so any store will do for it.
-    let mut cells = vec![0; if bucket == 0 { 0 } else { call::cells_named(n, bucket) }];
-    let mut work = vec![0; call::work_named(n)];
-    call::build(keys, bucket, [seed, seed], &mut cells, &mut work)?;
-    let mut stores = neighbour::Stores::for_keys(n);
-    neighbour::build(keys, seed, &mut stores)?;
-    Ok(Built { seed, cells, stores })
+    // Without buckets there are no named lengths, and the build refuses whatever it is lent.
+    let mut stores =
+        if bucket == 0 { Stores::default() } else { Stores::named(keys.len(), bucket) };
+    full::build(keys, bucket, [seed; 3], &mut stores)?;
+    Ok(Built { seed, stores })
 }
 
-/// Both indexes under the first seed that both builds take.
+/// Both indexes under the first seed that the build takes.
 pub fn build(keys: &[u64], bucket: usize) -> Result<Built, Refusal> {
     let mut last = build_with(keys, bucket, 0);
     for seed in 1..SEEDS {
@@ -106,11 +102,11 @@ pub fn build(keys: &[u64], bucket: usize) -> Result<Built, Refusal> {
 
 fn answers(input: &Input) -> Result<String, Refusal> {
     let (keys, bucket) = (&input.keys, input.bucket);
-    let built = build(keys, bucket)?;
+    let Built { seed, stores } = build(keys, bucket)?;
     let mut text = format!("keys={}\n", keys.len());
     for &x in &input.asks {
-        let row = call::ask(keys, bucket, [built.seed, built.seed], &built.cells, x)?;
-        let near = neighbour::ask(keys, built.seed, &built.stores, x)?;
+        let row = stores.call(keys, bucket, [seed; 2], x)?;
+        let near = stores.neighbour(keys, seed, x)?;
         let row = row.map_or("none".to_string(), |row| row.to_string());
         let (before, probes) = (near.before, near.probed.len());
         write!(text, "ask={x:016x}\ncall={row}\nbefore={before}\nprobes={probes}\n").unwrap();

@@ -14,7 +14,11 @@ pub fn table(name: &str, n: usize) -> Vec<u64> {
 }
 
 fn by_rule(n: usize, start: u64, group: u64, leap: u64, step: u64, spread: u64) -> Vec<u64> {
-    let key = |i: u64| start + (i / group) * leap + (i % group) * step + mix(i) % spread;
+    // Only the last of 32,769 spread keys passes 2^64.
+    let key = |i: u64| {
+        let leaps = (i / group).wrapping_mul(leap);
+        start.wrapping_add(leaps).wrapping_add((i % group) * step + mix(i) % spread)
+    };
     (0..n as u64).map(key).collect()
 }
 

@@ -2,28 +2,30 @@
 //! A check that fails stops the program.
 
 use crate::bits::{agree, prefix_item, shared_bits, two_fattest};
+use crate::full::{self, Stores};
 use crate::gen::Gen;
 use crate::keys::{pack, unpack, Fields};
 use crate::mix::{item_hash, mix};
-use crate::neighbour::Stores;
-use crate::refusal::Refusal;
-use crate::{call, maps, neighbour, plant, rowcheck, samples, table, vectors};
+use crate::refusal::{jam, Refusal};
+use crate::rowcheck::{self, Built};
+use crate::{call, maps, neighbour, plant, samples, table, vectors};
 
 /// A group of checks, which gives their number.
 type Group = (&'static str, fn() -> usize);
 
 pub fn run() {
-    let groups: [Group; 12] = [
+    let groups: [Group; 13] = [
         ("constants", constants),
         ("bits", bits),
         ("key fields", key_fields),
         ("jam by peeling and by all sets", jams),
         ("eleven-key table", eleven_key_table),
         ("answers after accepted builds", answers),
-        ("refusals of the call index", call_refusals),
-        ("refusals of the neighbour index", neighbour_refusals),
+        ("refusals of the build", build_refusals),
+        ("refusals of the asks", ask_refusals),
         ("spoiled bounds", spoiled_bounds),
-        ("lent memory", lent_memory),
+        ("short stores", short_stores),
+        ("what a build leaves", lent_memory),
         ("planted items", planted),
         ("rowcheck", rowcheck_example),
     ];
@@ -138,6 +140,19 @@ fn same_jam(triples: &[[usize; 3]], cells: usize) -> bool {
     jams
 }
 
+/// The items and values of maps 1, 2 and 3.
+fn three_maps(keys: &[u64], bucket: usize) -> [Vec<(u64, u16)>; 3] {
+    [
+        call::key_values(keys, bucket),
+        call::bucket_values(keys, bucket),
+        neighbour::wanted(keys).handles,
+    ]
+}
+
+fn items_of(wanted: &[(u64, u16)]) -> Vec<u64> {
+    wanted.iter().map(|&(item, _)| item).collect()
+}
+
 fn jams() -> usize {
     let mut gen = Gen::new(3);
     let mut seen = [0, 0];
@@ -160,11 +175,7 @@ fn jams() -> usize {
     for name in ["sequential", "spread", "clustered", "bits"] {
         for n in 0..=12 {
             let keys = samples::table(name, n);
-            let three_maps = [
-                items_of(&call::key_values(&keys, 3)),
-                items_of(&call::bucket_values(&keys, 3)),
-                items_of(&neighbour::wanted(&keys).handles),
-            ];
+            let three_maps = three_maps(&keys, 3).map(|wanted| items_of(&wanted));
             for seed in 0..32 {
                 for items in &three_maps {
                     check(&maps::triples(items, seed), maps::cell_count(items.len()));
@@ -188,14 +199,14 @@ fn eleven_key_table() -> usize {
     assert_eq!(handles, [2, 8, 4, 9, 8, 10, 12, 11, 7], "case 4");
     assert_eq!(neighbour::rows(&keys, 6), 5..9, "case 5");
     let built = rowcheck::build(&keys, 3).unwrap();
-    let answer = neighbour::ask(&keys, built.seed, &built.stores, keys[6]).unwrap();
+    let answer = built.stores.neighbour(&keys, built.seed, keys[6]).unwrap();
     assert_eq!(answer.probed, [32, 16, 8, 12, 14, 13], "case 6");
     assert_eq!(answer.before, 6, "case 6");
 
     let keys = [2, 3, 8];
     let built = rowcheck::build(&keys, 2).unwrap();
     for (case, x, before, probes) in [(7, 3, 1, 1), (8, 9, 3, 2), (9, 16, 3, 0), (10, 0, 0, 2)] {
-        let answer = neighbour::ask(&keys, built.seed, &built.stores, x).unwrap();
+        let answer = built.stores.neighbour(&keys, built.seed, x).unwrap();
         assert_eq!((answer.before, answer.probed.len()), (before, probes), "case {case}");
     }
     10
@@ -215,22 +226,21 @@ fn asks(keys: &[u64], rows: usize, gen: &mut Gen) -> Vec<u64> {
 }
 
 fn check_answers(keys: &[u64], bucket: usize, rows: usize, gen: &mut Gen) -> usize {
-    let built = rowcheck::build(keys, bucket).unwrap();
-    let seeds = [built.seed, built.seed];
+    let Built { seed, stores } = rowcheck::build(keys, bucket).unwrap();
     let n = keys.len();
     let shared = keys.iter().map(|&key| shared_bits(keys[0], key)).min().unwrap_or(0);
     let most_probes = if n < 2 { 0 } else { 32 - (63 - shared).leading_zeros() };
 
     for (row, &key) in keys.iter().enumerate() {
-        assert_eq!(call::ask(keys, bucket, seeds, &built.cells, key), Ok(Some(row)));
+        assert_eq!(stores.call(keys, bucket, [seed; 2], key), Ok(Some(row)));
     }
     let every = (n / (rows + 1)).max(1);
     let mut all = asks(keys, rows, gen);
     all.extend(keys.iter().step_by(every));
     for &x in &all {
         let row = keys.iter().position(|&key| key == x);
-        assert_eq!(call::ask(keys, bucket, seeds, &built.cells, x), Ok(row));
-        let answer = neighbour::ask(keys, built.seed, &built.stores, x).unwrap();
+        assert_eq!(stores.call(keys, bucket, [seed; 2], x), Ok(row));
+        let answer = stores.neighbour(keys, seed, x).unwrap();
         assert_eq!(answer.before, keys.iter().filter(|&&key| key < x).count());
         assert_eq!(answer.stands, row.is_some());
         assert!(answer.probed.len() as u32 <= most_probes && most_probes <= 6);
@@ -275,54 +285,74 @@ fn too_many() -> Vec<u64> {
 const RISING: [u64; 4] = [1, 2, 3, 4];
 const FALLING: [u64; 4] = [1, 2, 2, 1];
 
-fn call_refusals() -> usize {
-    let mut checks = 3;
-    let mut build = |keys: &[u64], bucket: usize, cells: usize, work: usize, expected| {
-        let mut lent = (vec![7; cells], vec![7; work]);
-        assert_eq!(call::build(keys, bucket, [0, 0], &mut lent.0, &mut lent.1), expected);
-        assert_eq!(lent, (vec![7; cells], vec![7; work]));
-        checks += 1;
+/// A number for entry i that is never 0.
+fn pattern(i: usize) -> u16 {
+    1 + (i % 65_535) as u16
+}
+
+/// Looks whether the build gives this refusal and changes nothing.
+fn check_refused(
+    keys: &[u64],
+    bucket: usize,
+    seeds: [u64; 3],
+    lengths: [usize; 5],
+    refusal: Refusal,
+) {
+    let mut stores = Stores::filled(lengths, pattern);
+    let before = stores.clone();
+    assert_eq!(full::build(keys, bucket, seeds, &mut stores), Err(refusal));
+    assert_eq!(stores, before);
+}
+
+/// Refusals 1 to 3, in stores of no entries and of some. Most of these tables and bucket sizes have
+/// faults that are judged later, too.
+fn build_refusals() -> usize {
+    let mut checks = 0;
+    let mut refused = |keys: &[u64], bucket: usize, number: u32, named: usize| {
+        for lengths in [[0; 5], [100; 5]] {
+            check_refused(keys, bucket, [0; 3], lengths, Refusal { number, named });
+            checks += 1;
+        }
     };
-    let (cells, work) = (call::cells_named(4, 2), call::work_named(4));
-    build(&too_many(), 1, 0, 0, refused(1, 0));
-    build(&FALLING, 1, 0, 0, refused(2, 0));
-    build(&FALLING, 257, 0, 0, refused(2, 0));
-    build(&FALLING, 2, 0, 0, refused(3, 2));
-    build(&RISING, 2, cells - 1, 0, refused(4, 1));
-    build(&RISING, 2, cells, work - 1, refused(4, 5));
-    build(&[], 2, 17, 18, refused(4, 1));
-    build(&[], 2, 18, 17, refused(4, 5));
-    assert_eq!(call::ask(&too_many(), 1, [0, 0], &[], 1), refused(1, 0));
-    assert_eq!(call::ask(&FALLING, 0, [0, 0], &[], 1), refused(2, 0));
-    assert_eq!(call::ask(&FALLING, 2, [0, 0], &vec![0; cells - 1], 1), refused(4, 1));
+    for bucket in [0, 1, 2, 256, 257] {
+        refused(&too_many(), bucket, 1, 0);
+    }
+    for bucket in [0, 1, 257, usize::MAX] {
+        for keys in [&FALLING, &RISING, &[][..]] {
+            refused(keys, bucket, 2, 0);
+        }
+    }
+    for bucket in [2, 256] {
+        refused(&FALLING, bucket, 3, 2);
+        refused(&[5, 5], bucket, 3, 1);
+        refused(&[1, 2, 3, 0, 0], bucket, 3, 3);
+    }
     checks
 }
 
-fn neighbour_refusals() -> usize {
-    let mut checks = 0;
-    let mut build = |keys: &[u64], lengths: [usize; 4], number: u32, named: usize| {
-        let [handles, left, right, work] = lengths.map(|length| vec![7; length]);
-        let mut stores = Stores { handles, left, right, work };
-        let before = stores.clone();
-        assert_eq!(neighbour::build(keys, 0, &mut stores), refused(number, named));
-        assert_eq!(stores, before);
-        // An ask judges neither the order of the keys nor work.
-        if number != 3 && named != 5 {
-            assert_eq!(neighbour::ask(keys, 0, &stores, 1), refused(number, named));
-        }
-        checks += 1;
+fn ask_refusals() -> usize {
+    let [cells, handles, ..] = full::named(4, 2);
+    let call = |keys: &[u64], bucket: usize, cells: usize| {
+        call::ask(keys, bucket, [0; 2], &vec![0; cells], 1)
     };
-    let (handles, work) = (neighbour::handles_named(4), neighbour::work_named(4));
-    build(&too_many(), [0; 4], 1, 0);
-    build(&FALLING, [0; 4], 3, 2);
-    build(&RISING, [handles - 1, 0, 0, 0], 4, 2);
-    build(&RISING, [handles, 3, 0, 0], 4, 3);
-    build(&RISING, [handles, 4, 3, 0], 4, 4);
-    build(&RISING, [handles, 4, 4, work - 1], 4, 5);
-    build(&[], [8, 0, 0, 18], 4, 2);
-    build(&[], [9, 0, 0, 17], 4, 5);
-    build(&[5], [9, 0, 1, 18], 4, 3);
-    checks
+    assert_eq!(call(&too_many(), 1, 0), refused(1, 0));
+    assert_eq!(call(&FALLING, 0, 0), refused(2, 0));
+    assert_eq!(call(&FALLING, 2, cells - 1), refused(4, 1));
+    assert_eq!(call(&FALLING, 2, cells), Ok(Some(0)));
+
+    let neighbour = |keys: &[u64], lengths: [usize; 3]| {
+        let [handles, left, right] = lengths.map(|length| vec![0; length]);
+        neighbour::ask(keys, 0, &handles, &left, &right, 1).map(|answer| answer.before)
+    };
+    assert_eq!(neighbour(&too_many(), [0; 3]), refused(1, 0));
+    assert_eq!(neighbour(&FALLING, [handles - 1, 0, 0]), refused(4, 2));
+    assert_eq!(neighbour(&FALLING, [handles, 3, 0]), refused(4, 3));
+    assert_eq!(neighbour(&FALLING, [handles, 4, 3]), refused(4, 4));
+    assert_eq!(neighbour(&FALLING, [handles, 4, 4]), refused(6, 0));
+    assert_eq!(neighbour(&[], [8, 0, 0]), refused(4, 2));
+    assert_eq!(neighbour(&[5], [9, 0, 1]), refused(4, 3));
+    assert_eq!(neighbour(&[5], [9, 1, 0]), refused(4, 4));
+    12
 }
 
 /// Spoiled bounds are judged at the root and at the last node only.
@@ -344,92 +374,120 @@ fn spoiled_bounds() -> usize {
             "left" => stores.left[entry] = value,
             _ => stores.right[entry] = value,
         }
-        let answer = neighbour::ask(&keys, built.seed, &stores, x);
+        let answer = stores.neighbour(&keys, built.seed, x);
         assert_eq!(answer.map(|answer| answer.before), expected);
     }
-    let stores = Stores { left: vec![1, 0], right: vec![0, 2], ..Stores::for_keys(2) };
-    assert_eq!(neighbour::ask(&[4, 4], 0, &stores, 4), refused(6, 0));
+    let stores = Stores { left: vec![1, 0], right: vec![0, 2], ..Stores::named(2, 2) };
+    assert_eq!(stores.neighbour(&[4, 4], 0, 4), refused(6, 0));
     spoiled.len() + 1
 }
 
-fn sevens(named: usize) -> Vec<u16> {
-    vec![7; named + 3]
-}
-
-/// Whether a store that was full of sevens is 0 over its named length and unchanged beyond.
-fn cleared(entries: &[u16], named: usize) -> bool {
-    entries[..named].iter().all(|&entry| entry == 0) && unchanged_beyond(entries, named)
-}
-
-fn unchanged_beyond(entries: &[u16], named: usize) -> bool {
-    entries[named..] == [7; 3]
-}
-
-fn items_of(wanted: &[(u64, u16)]) -> Vec<u64> {
-    wanted.iter().map(|&(item, _)| item).collect()
-}
-
-/// What builds leave in lent memory. Small tables jam often enough for all three maps to be named.
-fn lent_memory() -> usize {
-    let mut named = [0; 4];
-    let mut gen = Gen::new(5);
-    for n in 0..60 {
-        let keys = gen.rising(n, Gen::next);
-        for seed in 0..60 {
-            let (cells_named, work_named) = (call::cells_named(n, 2), call::work_named(n));
-            let (mut cells, mut work) = (sevens(cells_named), sevens(work_named));
-            match call::build(&keys, 2, [seed, seed], &mut cells, &mut work) {
-                Ok(()) => {
-                    named[0] += 1;
-                    let (first, second) = cells.split_at(maps::cell_count(n));
-                    check_untouched(&keys, seed, first);
-                    check_untouched(&items_of(&call::bucket_values(&keys, 2)), seed, second);
-                    assert!(unchanged_beyond(&cells, cells_named));
-                }
-                Err(refusal) => {
-                    assert_eq!(refusal.number, 5);
-                    named[refusal.named] += 1;
-                    assert!(cleared(&cells, cells_named));
+/// Refusal 4. Every set of stores is too short in turn, by one entry and by all, and the others are
+/// just long enough. The seeds jam where some do: a short store is judged before a jam.
+fn short_stores() -> usize {
+    // Work has the length that the keys want, for no key and for one too.
+    assert_eq!(full::named(0, 2), [18, 9, 0, 0, 18]);
+    assert_eq!(full::named(1, 2), [18, 9, 1, 1, 20]);
+    let mut checks = 2;
+    for n in [0, 1, 2, 3, 5, 17, 40] {
+        let keys = samples::table("spread", n);
+        for bucket in [2, 3, 256] {
+            let named = full::named(n, bucket);
+            let maps = three_maps(&keys, bucket);
+            let seeds = [0, 1, 2].map(|i| (0..64).find(|&seed| jams_under(&maps[i], seed)));
+            let seeds = seeds.map(|seed| seed.unwrap_or(0));
+            for set in 1..32 {
+                let short = |i: usize| set >> i & 1 == 1;
+                let Some(first) = (0..5).find(|&i| short(i) && named[i] > 0) else { continue };
+                let by_one =
+                    [0, 1, 2, 3, 4].map(|i| named[i].saturating_sub(usize::from(short(i))));
+                let by_all = [0, 1, 2, 3, 4].map(|i| if short(i) { 0 } else { named[i] });
+                for lengths in [by_one, by_all] {
+                    let refusal = Refusal { number: 4, named: first + 1 };
+                    check_refused(&keys, bucket, seeds, lengths, refusal);
+                    checks += 1;
                 }
             }
-            assert!(cleared(&work, work_named));
-
-            let (handles, work) = (neighbour::handles_named(n), neighbour::work_named(n));
-            let mut stores = Stores {
-                handles: sevens(handles),
-                left: sevens(n),
-                right: sevens(n),
-                work: sevens(work),
-            };
-            match neighbour::build(&keys, seed, &mut stores) {
-                Ok(()) => {
-                    named[0] += 1;
-                    let wanted = neighbour::wanted(&keys);
-                    check_untouched(&items_of(&wanted.handles), seed, &stores.handles);
-                    assert_eq!(stores.left[..n], wanted.left);
-                    assert_eq!(stores.right[..n], wanted.right);
-                    assert!(unchanged_beyond(&stores.handles, handles));
-                    assert!(
-                        unchanged_beyond(&stores.left, n) && unchanged_beyond(&stores.right, n)
-                    );
-                }
-                Err(refusal) => {
-                    assert_eq!((refusal.number, refusal.named), (5, 3));
-                    named[3] += 1;
-                    assert!(cleared(&stores.handles, handles));
-                    assert!(cleared(&stores.left, n) && cleared(&stores.right, n));
-                }
-            }
-            assert!(cleared(&stores.work, work));
         }
     }
-    assert!(named.iter().all(|&count| count > 100));
-    named.iter().sum()
+    checks
 }
 
-/// Looks whether the cells that no item touches are 0.
-fn check_untouched(items: &[u64], seed: u64, cells: &[u16]) {
-    let triples = maps::triples(items, seed);
+fn jams_under(wanted: &[(u64, u16)], seed: u64) -> bool {
+    let items = items_of(wanted);
+    let peeling = maps::peel(&maps::triples(&items, seed), maps::cell_count(items.len()));
+    !peeling.jam.is_empty()
+}
+
+/// What builds leave in stores that are longer than they must be. Every set of the three maps is
+/// made to jam, each map by a seed of its own that is searched for.
+fn lent_memory() -> usize {
+    let mut gen = Gen::new(5);
+    let mut seen = [0; 8];
+    for round in 0..240 {
+        let keys = gen.rising(round % 60, Gen::next);
+        let bucket = [2, 3, 7, 256][round / 60];
+        let maps = three_maps(&keys, bucket);
+        for (set, seen) in seen.iter_mut().enumerate() {
+            let from = gen.next() >> 1;
+            let seeds = [0, 1, 2].map(|i| {
+                let wanted = set >> i & 1 == 1;
+                (from..from + 200).find(|&seed| jams_under(&maps[i], seed) == wanted)
+            });
+            if let [Some(one), Some(two), Some(three)] = seeds {
+                let first = [1, 2, 3].into_iter().find(|map| set >> (map - 1) & 1 == 1);
+                check_left(&keys, bucket, [one, two, three], first.map(jam));
+                *seen += 1;
+            }
+        }
+        // The same seed for all maps.
+        for seed in 0..10 {
+            let first = [1, 2, 3].into_iter().find(|map| jams_under(&maps[map - 1], seed));
+            check_left(&keys, bucket, [seed; 3], first.map(jam));
+        }
+    }
+    // Small tables jam often enough for every set.
+    assert!(seen.iter().all(|&count| count > 40));
+    10 * 240 + seen.iter().sum::<usize>()
+}
+
+/// Builds, expecting this refusal or none, and looks at all that is left in the stores.
+fn check_left(keys: &[u64], bucket: usize, seeds: [u64; 3], refusal: Option<Refusal>) {
+    let n = keys.len();
+    let named = full::named(n, bucket);
+    let mut stores = Stores::filled(named.map(|length| length + 5), pattern);
+    let before = stores.clone();
+    assert_eq!(full::build(keys, bucket, seeds, &mut stores).err(), refusal);
+    for (i, (store, before)) in stores.all().into_iter().zip(before.all()).enumerate() {
+        assert_eq!(store[named[i]..], before[named[i]..]);
+    }
+    let zero = |entries: &[u16]| entries.iter().all(|&entry| entry == 0);
+    assert!(zero(&stores.work[..named[4]]));
+    if refusal.is_some() {
+        assert!(stores.all().into_iter().zip(named).all(|(store, length)| zero(&store[..length])));
+        return;
+    }
+    let (first, second) = stores.cells.split_at(maps::cell_count(n));
+    let cells = [first, second, &stores.handles];
+    for ((wanted, seed), cells) in three_maps(keys, bucket).iter().zip(seeds).zip(cells) {
+        check_map(wanted, seed, cells);
+    }
+    let wanted = neighbour::wanted(keys);
+    assert_eq!(stores.left[..n], wanted.left);
+    assert_eq!(stores.right[..n], wanted.right);
+    for (row, &key) in keys.iter().enumerate() {
+        assert_eq!(stores.call(keys, bucket, [seeds[0], seeds[1]], key), Ok(Some(row)));
+        assert_eq!(stores.neighbour(keys, seeds[2], key).unwrap().before, row);
+    }
+}
+
+/// Looks whether each item has its value, and whether the cells that no item touches are 0.
+fn check_map(wanted: &[(u64, u16)], seed: u64, cells: &[u16]) {
+    let items = items_of(wanted);
+    for &(item, value) in wanted {
+        assert_eq!(maps::lookup(item, seed, items.len(), cells), value);
+    }
+    let triples = maps::triples(&items, seed);
     for (cell, &value) in cells[..maps::cell_count(items.len())].iter().enumerate() {
         assert!(value == 0 || triples.iter().any(|triple| triple.contains(&cell)));
     }

@@ -1,9 +1,12 @@
 //! The texts that docs/VECTORS.md describes.
 
+use crate::full::{self, Stores};
 use crate::keys::{pack, unpack, Fields};
 use crate::mix::{item_hash, mix, STEP};
 use crate::refusal::Refusal;
+use crate::rowcheck::{self, Built};
 use crate::samples::table;
+use crate::table::MOST_KEYS;
 use crate::{call, maps, neighbour};
 use std::fmt::Write;
 
@@ -17,7 +20,7 @@ pub fn text(name: &str) -> Option<String> {
         "mixvectors" => mixvectors,
         "hashvectors" => hashvectors,
         "keyvectors" => keyvectors,
-        "mapvectors" => mapvectors,
+        "fullvectors" => fullvectors,
         "callvectors" => callvectors,
         "neighbourvectors" => neighbourvectors,
         _ => return None,
@@ -108,26 +111,6 @@ fn keyvectors() -> String {
     text
 }
 
-fn call_build(keys: &[u64], bucket: usize, seed: u64) -> Result<Vec<u16>, Refusal> {
-    let mut cells = vec![0; call::cells_named(keys.len(), bucket)];
-    let mut work = vec![0; call::work_named(keys.len())];
-    call::build(keys, bucket, [seed, seed], &mut cells, &mut work)?;
-    Ok(cells)
-}
-
-fn neighbour_build(keys: &[u64], seed: u64) -> Result<neighbour::Stores, Refusal> {
-    let mut stores = neighbour::Stores::for_keys(keys.len());
-    neighbour::build(keys, seed, &mut stores)?;
-    Ok(stores)
-}
-
-/// The first seed of 0 to 255 that a build takes, with what it left.
-fn first_taken<T>(build: impl Fn(u64) -> Result<T, Refusal>) -> (u64, T) {
-    (0..256)
-        .find_map(|seed| Some((seed, build(seed).ok()?)))
-        .expect("some seed is taken for each table of the vectors")
-}
-
 fn said<T>(result: Result<T, Refusal>) -> String {
     match result {
         Ok(_) => "taken".to_string(),
@@ -135,28 +118,113 @@ fn said<T>(result: Result<T, Refusal>) -> String {
     }
 }
 
-fn mapvectors() -> String {
+/// The index under the first seed of 0 to 255, the same for all maps, that the build takes.
+fn first_taken(keys: &[u64], bucket: usize) -> Built {
+    rowcheck::build(keys, bucket).expect("some seed is taken for each table of the vectors")
+}
+
+fn fullvectors() -> String {
     let mut text = String::new();
-    let mut block = |name: &str, n: usize, bucket: usize, seeds: u64| {
-        let keys = table(name, n);
-        line!(text, "table={name} keys={n} bucket={bucket}");
-        for seed in 0..seeds {
-            let call = said(call_build(&keys, bucket, seed));
-            let neighbour = said(neighbour_build(&keys, seed));
-            line!(text, "seed={seed} call={call} neighbour={neighbour}");
-        }
-    };
+    verdicts(&mut text);
+    refusals(&mut text);
+    answers(&mut text);
+    text
+}
+
+/// Builds in stores of these lengths, whose entry i holds mix(i + 1) mod 65536 before, and takes
+/// what is left in them into the digest.
+fn tried(
+    keys: &[u64],
+    bucket: usize,
+    seeds: [u64; 3],
+    lengths: [usize; 5],
+    digest: &mut u64,
+) -> String {
+    let mut stores = Stores::filled(lengths, |i| (mix(i as u64 + 1) % 65_536) as u16);
+    let result = full::build(keys, bucket, seeds, &mut stores);
+    // Which filling of the maps is written after acceptance is free.
+    let told = if result.is_ok() { 2 } else { 0 };
+    for &entry in stores.all()[told..].iter().copied().flatten() {
+        *digest = mix(digest.wrapping_add(u64::from(entry)));
+    }
+    said(result)
+}
+
+/// The same seed for all maps, and for each map alone.
+fn four_seeds(seed: u64) -> [[u64; 3]; 4] {
+    [[seed; 3], [seed, 0, 0], [0, seed, 0], [0, 0, seed]]
+}
+
+fn verdicts(text: &mut String) {
+    let longer = full::named(300, 2).map(|length| length + 16);
     for name in ["sequential", "spread", "clustered"] {
         for n in [0, 1, 2, 3, 4, 5, 8, 13, 21, 34, 55, 300] {
+            let keys = table(name, n);
             for bucket in [2, 3, 16] {
-                block(name, n, bucket, 16);
+                line!(text, "table={name} keys={n} bucket={bucket}");
+                for seed in 0..16 {
+                    let mut digest = 1;
+                    let [all, one, two, three] = four_seeds(seed)
+                        .map(|seeds| tried(&keys, bucket, seeds, longer, &mut digest));
+                    line!(
+                        text,
+                        "seed={seed} all={all} one={one} two={two} three={three} stores={digest:016x}"
+                    );
+                }
             }
         }
     }
+    let (n, bucket) = (MOST_KEYS, 256);
     for name in ["spread", "clustered"] {
-        block(name, 32_768, 256, 1);
+        line!(text, "table={name} keys={n} bucket={bucket}");
+        // With seed 0 the four builds are one.
+        let mut stores = Stores::named(n, bucket);
+        let said = said(full::build(&table(name, n), bucket, [0; 3], &mut stores));
+        line!(text, "seed=0 all={said} one={said} two={said} three={said}");
     }
-    text
+}
+
+fn refusals(text: &mut String) {
+    let (n, bucket) = (17, 3);
+    let mut refused = |tag: &str, keys: &[u64], bucket_size: usize, short: usize| {
+        let mut lengths = full::named(n, bucket);
+        for (i, length) in lengths.iter_mut().enumerate() {
+            *length -= short >> i & 1;
+        }
+        let mut digest = 1;
+        let said = tried(keys, bucket_size, [0; 3], lengths, &mut digest);
+        line!(text, "{tag} said={said} stores={digest:016x}");
+    };
+    let mut keys = table("spread", n);
+    for short in 0..32 {
+        refused(&format!("short={short}"), &keys, bucket, short);
+    }
+    // Each of these has all the faults that are judged later.
+    keys.reverse();
+    refused("turned", &keys, bucket, 31);
+    refused("bucket=1", &keys, 1, 31);
+    refused("bucket=257", &keys, 257, 31);
+    let keys = table("spread", MOST_KEYS + 1);
+    refused(&format!("keys={}", keys.len()), &keys, 257, 31);
+}
+
+fn answers(text: &mut String) {
+    for name in ["sequential", "spread", "clustered", "bits"] {
+        for n in [0, 1, 2, 3, 5, 17, 64, 65, 256, 257, 2000] {
+            if name == "bits" && n > 65 {
+                continue;
+            }
+            let keys = table(name, n);
+            for bucket in [2, 3, 16, 255, 256] {
+                let Built { seed, stores } = first_taken(&keys, bucket);
+                let Found { found, digest } = ask_call(&keys, bucket, seed, &stores.cells);
+                let call = format!("found={found} call={digest:016x}");
+                let Probed { sum, most, digest } = ask_neighbour(&keys, seed, &stores);
+                let neighbour = format!("probes={sum} most={most} neighbour={digest:016x}");
+                line!(text, "table={name} keys={n} bucket={bucket} seed={seed} {call} {neighbour}");
+            }
+        }
+    }
 }
 
 /// Each key with the keys below and above it, in row order, and at last the two ends.
@@ -173,21 +241,50 @@ fn refusal_code(refusal: Refusal) -> u64 {
     (1 << 32) + u64::from(refusal.number)
 }
 
-fn call_digest(keys: &[u64], bucket: usize, seed: u64, cells: &[u16]) -> String {
-    let mut digest = 1u64;
-    let mut found = 0;
+/// How many asks gave a row, and the digest of all answers.
+struct Found {
+    found: usize,
+    digest: u64,
+}
+
+fn ask_call(keys: &[u64], bucket: usize, seed: u64, cells: &[u16]) -> Found {
+    let mut told = Found { found: 0, digest: 1 };
     for x in asks(keys) {
-        let code = match call::ask(keys, bucket, [seed, seed], cells, x) {
+        let code = match call::ask(keys, bucket, [seed; 2], cells, x) {
             Ok(Some(row)) => {
-                found += 1;
+                told.found += 1;
                 row as u64 + 1
             }
             Ok(None) => 0,
             Err(refusal) => refusal_code(refusal),
         };
-        digest = mix(digest.wrapping_add(code));
+        told.digest = mix(told.digest.wrapping_add(code));
     }
-    format!("found={found} digest={digest:016x}")
+    told
+}
+
+/// The sum and the largest of the probe counts, and the digest of all answers.
+struct Probed {
+    sum: u64,
+    most: u64,
+    digest: u64,
+}
+
+fn ask_neighbour(keys: &[u64], seed: u64, stores: &Stores) -> Probed {
+    let mut told = Probed { sum: 0, most: 0, digest: 1 };
+    for x in asks(keys) {
+        let code = match stores.neighbour(keys, seed, x) {
+            Ok(answer) => {
+                let probes = answer.probed.len() as u64;
+                told.sum += probes;
+                told.most = told.most.max(probes);
+                answer.before as u64 * 65_536 + probes * 16 + u64::from(answer.stands)
+            }
+            Err(refusal) => refusal_code(refusal),
+        };
+        told.digest = mix(told.digest.wrapping_add(code));
+    }
+    told
 }
 
 fn callvectors() -> String {
@@ -198,19 +295,16 @@ fn callvectors() -> String {
                 continue;
             }
             for bucket in [2, 3, 16, 255, 256] {
-                callvectors_of(&mut text, name, n, bucket);
+                line!(text, "table={name} keys={n} bucket={bucket}");
+                callvectors_of(&mut text, table(name, n), bucket);
             }
         }
     }
     text
 }
 
-fn callvectors_of(text: &mut String, name: &str, n: usize, bucket: usize) {
-    let mut keys = table(name, n);
-    let head = format!("table={name} keys={n} bucket={bucket}");
-    let (seed, cells) = first_taken(|seed| call_build(&keys, bucket, seed));
-    line!(text, "{head} seed={seed} {}", call_digest(&keys, bucket, seed, &cells));
-
+fn callvectors_of(text: &mut String, mut keys: Vec<u64>, bucket: usize) {
+    let n = keys.len();
     let cell = |rule: &str, i: usize| match rule {
         "few" if i < maps::cell_count(n) => mix(i as u64 + 7) % 4,
         "random" => mix(i as u64 + 1_000_003) % 65_536,
@@ -220,29 +314,11 @@ fn callvectors_of(text: &mut String, name: &str, n: usize, bucket: usize) {
         for rule in ["zero", "few", "random"] {
             let cells: Vec<u16> =
                 (0..call::cells_named(n, bucket)).map(|i| cell(rule, i) as u16).collect();
-            line!(text, "cells={rule}{turned} {}", call_digest(&keys, bucket, seed, &cells));
+            let Found { found, digest } = ask_call(&keys, bucket, 0, &cells);
+            line!(text, "cells={rule}{turned} found={found} digest={digest:016x}");
         }
         keys.reverse();
     }
-}
-
-fn neighbour_digest(keys: &[u64], seed: u64, stores: &neighbour::Stores) -> String {
-    let mut digest = 1u64;
-    let mut sum = 0;
-    let mut most = 0;
-    for x in asks(keys) {
-        let code = match neighbour::ask(keys, seed, stores, x) {
-            Ok(answer) => {
-                let probes = answer.probed.len() as u64;
-                sum += probes;
-                most = most.max(probes);
-                answer.before as u64 * 65_536 + probes * 16 + u64::from(answer.stands)
-            }
-            Err(refusal) => refusal_code(refusal),
-        };
-        digest = mix(digest.wrapping_add(code));
-    }
-    format!("probes={sum} most={most} digest={digest:016x}")
 }
 
 fn neighbourvectors() -> String {
@@ -252,31 +328,24 @@ fn neighbourvectors() -> String {
             if name == "bits" && n > 65 {
                 continue;
             }
-            neighbourvectors_of(&mut text, name, n);
+            let keys = table(name, n);
+            let Built { seed, stores } = first_taken(&keys, 2);
+            line!(text, "table={name} keys={n} seed={seed}");
+            neighbourvectors_of(&mut text, &keys, seed, stores);
         }
     }
     text
 }
 
-fn neighbourvectors_of(text: &mut String, name: &str, n: usize) {
-    let keys = table(name, n);
-    let head = format!("table={name} keys={n}");
-    let (seed, stores) = first_taken(|seed| neighbour_build(&keys, seed));
-    line!(text, "{head} seed={seed} {}", neighbour_digest(&keys, seed, &stores));
-
+fn neighbourvectors_of(text: &mut String, keys: &[u64], seed: u64, mut built: Stores) {
+    let n = keys.len();
     let size = n as u64;
     let numbers = |from: usize, to: usize, add: u64, modulus: u64| {
         (from..to).map(move |i| (mix(i as u64 + add) % modulus) as u16)
     };
-    let wanted = neighbour::wanted(&keys);
-    let true_bounds = neighbour::Stores {
-        handles: numbers(0, neighbour::handles_named(n), 7, size + 1).collect(),
-        left: wanted.left,
-        right: wanted.right,
-        work: Vec::new(),
-    };
+    built.handles = numbers(0, neighbour::handles_named(n), 7, size + 1).collect();
     for rule in ["handles", "root", "left", "right", "over", "all"] {
-        let mut stores = true_bounds.clone();
+        let mut stores = built.clone();
         match rule {
             "root" if n > 0 => stores.left[0] = n as u16,
             "left" if n > 0 => {
@@ -294,6 +363,7 @@ fn neighbourvectors_of(text: &mut String, name: &str, n: usize) {
             }
             _ => {}
         }
-        line!(text, "stores={rule} {}", neighbour_digest(&keys, seed, &stores));
+        let Probed { sum, most, digest } = ask_neighbour(keys, seed, &stores);
+        line!(text, "stores={rule} probes={sum} most={most} digest={digest:016x}");
     }
 }

@@ -8,6 +8,7 @@ use Rattle.basics.proofs.Bools.{differ}
 use Rattle.refusals.specs.Numbers.{number, names}
 use Rattle.refusals.specs.declared.Refusal.{Refusal}
 use Rattle.tables.specs.Tables.{smaller}
+use Rattle.stores.specs.Stores.{Stores, Seeds}
 use Rattle.callask.specs.Ask.{CallSaid, row, absent, refused, callSays}
 use Rattle.neighbour.specs.Ask.{place, saidByNeighbour, standsAt, neighbourSays}
 use Rattle.index.specs.Answers.{rowOf, probesOf, Answers}
@@ -44,19 +45,18 @@ neighbour-refuses-none : (r : Refusal) (c n : ℕ) (s : Bool) → saidByNeighbou
 unfolding saidByNeighbour
 neighbour-refuses-none r c n s e = differ (cc)
 
-module _ {keys : List ℕ} {b s₁ s₂ s₃ : ℕ} {cells handles left right : List ℕ}
-    (A : Answers keys b s₁ s₂ s₃ cells handles left right) (x : ℕ) where
+module _ {keys : List ℕ} {b : ℕ} {s : Seeds} {S : Stores} (A : Answers keys b s S) (x : ℕ) where
   pub neighbour-refused : (r : Refusal)
-      → saidByNeighbour (Refused r) ≡ neighbourSays keys handles left right s₃ x → ⊥
+      → saidByNeighbour (Refused r) ≡ neighbourSays keys (S .handles) (S .left) (S .right) (s .three) x → ⊥
   neighbour-refused r e =
       neighbour-refuses-none r (smaller keys x) (probesOf keys x) (standsAt keys x (smaller keys x)) (e ∙ A .counts x)
 
-  pub call-refused : (r : Refusal) → refused (number r) (names r) ≡ callSays keys b s₁ s₂ cells x → ⊥
+  pub call-refused : (r : Refusal) → refused (number r) (names r) ≡ callSays keys b (s .one) (s .two) (S .cells) x → ⊥
   call-refused r e =
       call-refuses-none (standsAt keys x (smaller keys x)) (smaller keys x) (number r) (names r) (e ∙ A .calls x)
 
-  pub ask-said : (p : Place) (call : Called) → saidByNeighbour (At p) ≡ neighbourSays keys handles left right s₃ x
-      → saidOf call ≡ callSays keys b s₁ s₂ cells x
+  pub ask-said : (p : Place) (call : Called) → saidByNeighbour (At p) ≡ neighbourSays keys (S .handles) (S .left) (S .right) (s .three) x
+      → saidOf call ≡ callSays keys b (s .one) (s .two) (S .cells) x
       → askLines keys x ≡ askText x call (p .before) (p .probes)
   ask-said p call e f =
       let c : call ≡ rowOf Row Absent keys x =

@@ -3,6 +3,7 @@
 // Every function is proved and the crate assumes nothing.
 ghost use Rattle.digits.specs.Texts.{Writes};
 ghost use Rattle.lines.specs.Lines.{texts};
+ghost use Rattle.stores.specs.Stores.{asked, same};
 ghost use Rattle.index.specs.Answers.{Answers};
 ghost use Rattle.asks.specs.Asks.{askLines};
 ghost use Rattle.asks.specs.Inner.{Prints};
@@ -25,7 +26,7 @@ fn answer_ask(
     out: &mut [u8],
     i: usize,
 ) -> Next
-    requires { ⌜ Answers (now keys) b seed seed seed (now cells) (now handles) (now left) (now right) ⌝ }
+    requires { ⌜ Answers (now keys) b (same seed) (asked (now cells) (now handles) (now left) (now right)) ⌝ }
     ensures { λ r. ⌜ Writes (askLines (now (keys .entry)) x) (now (out .entry)) i (now (out .exit)) r ⌝ }
 {
     let NeighbourAnswer::At(place) = index::neighbour_ask(keys, seed, handles, left, right, x)
@@ -52,7 +53,7 @@ pub fn answer_asks(
     out: &mut [u8],
     i: usize,
 ) -> Next
-    requires { ⌜ Answers (now keys) b seed seed seed (now cells) (now handles) (now left) (now right) ⌝ }
+    requires { ⌜ Answers (now keys) b (same seed) (asked (now cells) (now handles) (now left) (now right)) ⌝ }
     ensures { λ r.
         ⌜ Prints (texts (askLines (now (keys .entry))) (now (asks .entry)))
         (now (out .entry)) i (now (out .exit)) r ⌝ }

@@ -6,11 +6,11 @@
 ghost use mathlib.Core.Path.{_≡_};
 ghost use Rattle.refusals.specs.Numbers.{number, names, saidByBuild};
 ghost use Rattle.callask.specs.Ask.{callSays};
-ghost use Rattle.call.specs.Build.{CallBuilt};
 ghost use Rattle.neighbour.specs.Ask.{neighbourSays};
-ghost use Rattle.neighbour.specs.Build.{NeighbourBuilt};
+ghost use Rattle.stores.specs.Stores.{lent, seeds};
+ghost use Rattle.full.specs.Build.{FullBuilt};
 ghost use Rattle.bench.specs.Codes.{refusedCode, buildCode, Coded, callCode, neighbourCode, standsCode};
-use call::CallAnswer;
+use callask::CallAnswer;
 use neighbour::NeighbourAnswer;
 use refusals::Refusal;
 use refusals::Verdict;
@@ -50,7 +50,7 @@ pub extern "C" fn index_call_ask(
 ) -> u64
     ensures { λ c. ⌜ c ≡ callCode (callSays (now (keys .entry)) b seed1 seed2 (now (cells .entry)) x) ⌝ }
 {
-    let a = call::call_ask(keys, b, seed1, seed2, cells, x);
+    let a = callask::call_ask(keys, b, seed1, seed2, cells, x);
     match a {
         CallAnswer::Row(row) => row as u64,
         CallAnswer::Absent => 0xFFFF_FFFF_FFFF_FFFF,
@@ -79,33 +79,33 @@ pub extern "C" fn index_neighbour_ask(
 }
 
 #[no_mangle]
-pub extern "C" fn index_call_build(
+pub extern "C" fn index_full_build(
     keys: &[u64],
     b: usize,
     seed1: u64,
     seed2: u64,
-    cells: &mut [u16],
-    work: &mut [u16],
-) -> u64
-    ensures { λ c. ⌜ Coded (λ said. CallBuilt (now (keys .entry)) b seed1 seed2
-        (now (cells .entry)) (now (work .entry))
-        said (now (cells .exit)) (now (work .exit))) c ⌝ }
-{
-    verdict(call::call_build(keys, b, seed1, seed2, cells, work))
-}
-
-#[no_mangle]
-pub extern "C" fn index_neighbour_build(
-    keys: &[u64],
     seed3: u64,
+    cells: &mut [u16],
     handles: &mut [u16],
     left: &mut [u16],
     right: &mut [u16],
     work: &mut [u16],
 ) -> u64
-    ensures { λ c. ⌜ Coded (λ said. NeighbourBuilt (now (keys .entry)) seed3
-        (now (handles .entry)) (now (left .entry)) (now (right .entry)) (now (work .entry))
-        said (now (handles .exit)) (now (left .exit)) (now (right .exit)) (now (work .exit))) c ⌝ }
+    ensures { λ c. ⌜ Coded (λ said. FullBuilt (now (keys .entry)) b (seeds seed1 seed2 seed3)
+        (lent (now (cells .entry)) (now (handles .entry)) (now (left .entry)) (now (right .entry)) (now (work .entry)))
+        said
+        (lent (now (cells .exit)) (now (handles .exit)) (now (left .exit)) (now (right .exit)) (now (work .exit)))) c ⌝ }
 {
-    verdict(neighbour::neighbour_build(keys, seed3, handles, left, right, work))
+    verdict(full::full_build(
+        keys,
+        b,
+        seed1,
+        seed2,
+        seed3,
+        cells,
+        handles,
+        left,
+        right,
+        work,
+    ))
 }

@@ -9,17 +9,15 @@ use lib.Seq.{drop-drop, length-take-le, getD-take}
 use Rattle.cells.specs.Cells.{cellCount, workCount}
 use Rattle.cells.specs.Memory.{cleared}
 use Rattle.cells.proofs.Values.{value-take}
-use Rattle.cells.proofs.Sweeping.{drop-cleared, cleared-over, cleared-within}
+use Rattle.cells.proofs.Sweeping.{cleared-within}
 use Rattle.tables.specs.Delimiters.{buckets}
 use Rattle.tables.specs.Lengths.{callCells, callWork}
 use Rattle.tables.proofs.Delimiting.{buckets-le}
 use Rattle.items.specs.Items.{keyValues, prefixItems, bucketNumbers}
 use Rattle.items.proofs.Values.{length-prefixes}
-use Rattle.jams.specs.Jam.{Jamless}
 use Rattle.maps.specs.Built.{Built, Filled, Room}
-use Rattle.maps.proofs.Determined.{jam-of}
-use Rattle.refusals.specs.Numbers.{taken, refused}
-use Rattle.call.specs.Build.{MapsBuilt, jam₁, jam₂, filled}
+use Rattle.maps.proofs.Determined.{cells-beyond}
+use Rattle.call.specs.Build.{CallFilled}
 use Rattle.call.specs.Inner.{Buildable, KeysBuilt, PrefixesBuilt}
 use Rattle.call.proofs.Parts.{part-is, from-part, before-part}
 
@@ -27,7 +25,7 @@ use Rattle.call.proofs.Parts.{part-is, from-part, before-part}
 fewer-cells : (k n : ℕ) → k ≤ n → cellCount k ≤ cellCount n
 fewer-cells k n h = omega arith
 
-fewer-work : (k n : ℕ) → k ≤ n → workCount k ≤ workCount n
+pub fewer-work : (k n : ℕ) → k ≤ n → workCount k ≤ workCount n
 fewer-work k n h = omega (arith, fewer-cells k n h)
 
 -- a filled map is one by its own cells alone
@@ -83,60 +81,38 @@ module _ {keys : List ℕ} {b : ℕ} {cells work : List ℕ} (A : Buildable keys
   abbrev k : ℕ
   k = buckets n b
 
-  abbrev all : ℕ
-  all = callCells n b
-
   few-buckets : k ≤ n
   few-buckets = buckets-le n b (omega (arith, A .sorted .two))
 
-  -- map 1 is built, or jammed
-  module _ {seed₁ seed₂ : ℕ} {cells₁ work₁ : List ℕ} {size₁ : ℕ}
+  -- map 1 is built, or jammed, and then map 2
+  module _ {seed₁ : ℕ} {cells₁ work₁ : List ℕ} {size₁ : ℕ}
       (B₁ : KeysBuilt keys b seed₁ cells work size₁ cells₁ work₁) where
-    pub jammed-first : 0 < size₁ → {cells′ : List ℕ} → cells′ ≡ cleared all cells₁
-        → MapsBuilt keys b seed₁ seed₂ cells work (refused 5 1) cells′ work₁
-    jammed-first h e =
-        jam₁ (jam-of seed₁ keys B₁ h) refl
-        (e ∙ ap (cleared all) (B₁ .refused h .1) ∙ cleared-over c all cells (omega arith)) (B₁ .swept)
+    -- past the named length nothing of the store changes
+    pub first-beyond : drop (callCells n b) cells₁ ≡ drop (callCells n b) cells
+    first-beyond =
+        sym (drop-drop (cellCount k) c cells₁) ∙ ap (drop (cellCount k)) (cells-beyond seed₁ keys B₁)
+        ∙ drop-drop (cellCount k) c cells
 
-    -- and map 2 after it
-    module _ (h₁ : size₁ ≤ 0) {cells₂ work₂ : List ℕ} {size₂ : ℕ}
+    module _ {seed₂ : ℕ} {cells₂ work₂ : List ℕ} {size₂ : ℕ}
         (B₂ : PrefixesBuilt keys b seed₂ cells₁ work₁ size₂ cells₂ work₂) where
-      N₁ : Jamless seed₁ keys
-      N₁ = B₁ .accepted (omega arith) .0
-
-      F₁ : Filled seed₁ keys (keyValues b keys) cells cells₁
-      F₁ = B₁ .accepted (omega arith) .1
+      pub second-beyond : drop (callCells n b) cells₂ ≡ drop (callCells n b) cells
+      second-beyond =
+          sym (drop-drop (cellCount k) c cells₂)
+          ∙ rw (length-prefixes b keys) at (cells-beyond seed₂ (prefixItems b keys) (B₂ .part))
+          ∙ drop-drop (cellCount k) c cells₁ ∙ first-beyond
 
       -- the work that map 2 leaves is that of map 1, which was longer
-      swept : work₂ ≡ cleared (callWork n) work
-      swept =
+      pub both-swept : work₂ ≡ cleared (callWork n) work
+      both-swept =
           let w = workCount (length (prefixItems b keys)) in
           let less : w ≤ callWork n = rw (length-prefixes b keys) (fewer-work k n few-buckets) in
           B₂ .part .swept ∙ ap (cleared w) (B₁ .swept) ∙ cleared-within w (callWork n) work less
 
-      -- past the named length nothing of the store changed
-      beyond : (d : List ℕ)
-          → (let C = cellCount (length (prefixItems b keys)) in drop C d ≡ drop C (drop c cells₁))
-          → drop c cells₂ ≡ d → drop all cells₂ ≡ drop all cells
-      beyond d e f =
-          sym (drop-drop (cellCount k) c cells₂) ∙ ap (drop (cellCount k)) f ∙ rw (length-prefixes b keys) at e
-          ∙ ap (drop (cellCount k)) (F₁ .beyond) ∙ drop-drop (cellCount k) c cells
-
-      pub jammed-second : 0 < size₂ → {cells′ : List ℕ} → cells′ ≡ cleared all cells₂
-          → MapsBuilt keys b seed₁ seed₂ cells work (refused 5 2) cells′ work₂
-      jammed-second h e =
-          let C = cellCount (length (prefixItems b keys)) in
-          let was = B₂ .part .refused h .1 in
-          let same = beyond (drop c cells₂) (ap (drop C) was ∙ drop-cleared C C (drop c cells₁) (omega arith)) refl in
-          jam₂ N₁ (jam-of seed₂ (prefixItems b keys) (B₂ .part) h) refl
-          (e ∙ ap (λ (xs : List ℕ). replicate all 0 ++ xs) same) swept
-
-      pub both-built : size₂ ≤ 0 → MapsBuilt keys b seed₁ seed₂ cells work taken cells₂ work₂
-      both-built h =
-          let A₂ = B₂ .part .accepted (omega arith) in
+      pub both-filled : size₁ ≡ 0 → size₂ ≡ 0 → CallFilled keys b seed₁ seed₂ cells cells₂
+      both-filled h₁ h₂ =
+          let F = B₁ .accepted h₁ .1 in
           let long : c ≤ length cells = omega (arith, A .cellsLong) in
-          filled N₁ (A₂ .0) refl (record {
-            map₁ = rw (B₂ .kept) (filled-part seed₁ keys (keyValues b keys) cells cells₁ long F₁);
-            map₂ = rw (F₁ .beyond) at (A₂ .1);
-          })
-          swept
+          record {
+            map₁ = rw (B₂ .kept) (filled-part seed₁ keys (keyValues b keys) cells cells₁ long F);
+            map₂ = rw (F .beyond) at (B₂ .part .accepted h₂ .1);
+          }

@@ -1,9 +1,8 @@
 // The call index (document 01, "Call index"): a planned key gets its sorted row, and every other key is absent.
 //
-// Every function is proved and the crate assumes nothing. `call_build`, and `call_ask` which stands in `callask`, take
-// whatever they are handed.
+// Every function is proved and the crate assumes nothing. The entry `call_ask`, which stands in `callask`, takes whatever
+// it is handed; `build` holds the parts of the full build, which ask for a table and stores that were judged.
 pub mod build;
 
-pub use build::call_build;
 pub use callask::CallAnswer;
 pub use callask::call_ask;

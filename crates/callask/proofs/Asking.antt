@@ -1,7 +1,7 @@
 -- What an ask says, by its tests. Assumes nothing.
-use mathlib.Core.Path.{_≡_, sym, _∙_}
-use mathlib.Core.List.{List}
-use Prim.Native.Nat.{ℕ, _+_, _*_, _/_, _%_, _≤_, _<_}
+use mathlib.Core.Path.{_≡_, refl, sym, _∙_}
+use mathlib.Core.List.{List, []}
+use Prim.Native.Nat.{ℕ, _+_, _*_, _/_, _%_, _≤_, _<_, zero-le}
 use native.Mathlib.Nat.{mul-le-mul}
 use native.Mathlib.Omega.{arith}
 use borrow.Author.Tests.{lt-ltb, le-ltb}
@@ -10,6 +10,11 @@ use Rattle.words.specs.Keys.{prefixItem}
 use Rattle.cells.specs.Cells.{cellCount, mapValue}
 use Rattle.tables.specs.Delimiters.{buckets}
 use Rattle.tables.specs.Lengths.{callCells}
+use Rattle.stores.specs.Sizes.{shortStore, callSizes}
+use Rattle.stores.specs.Stores.{asked, sizesOf}
+use Rattle.stores.specs.declared.Sizes.{Sizes}
+use Rattle.stores.proofs.Chains.{goes-on, refuses}
+use Rattle.stores.proofs.Judging.{none-short, all-fit}
 use Rattle.callask.specs.Ask.{CallSaid, absent, refused, rowSays, ruleRow, ruleSays, callSays}
 use Rattle.callask.specs.Inner.{Askable}
 
@@ -17,23 +22,31 @@ use Rattle.callask.specs.Inner.{Askable}
 pub row-fits : (a b : ℕ) → a < 65536 → b ≤ 256 → a * b ≤ 65535 * 256
 row-fits a b h l = let small : a ≤ 65535 = omega arith in mul-le-mul small l
 
+-- the cells that are lent, as refusal 4 judges them
+abbrev has : List ℕ → Sizes
+has cells = sizesOf (asked cells [] [] [])
+
+pub asks-fit : (n b : ℕ) (cells : List ℕ) {short : ℕ} → short ≡ shortStore (has cells) (callSizes n b) → short ≤ 0
+    → callCells n b ≤ length cells
+asks-fit n b cells is h = none-short (has cells) (callSizes n b) (omega arith) .cells
+
+fit-asks : (n b : ℕ) (cells : List ℕ) → callCells n b ≤ length cells → shortStore (has cells) (callSizes n b) ≡ 0
+fit-asks n b cells l =
+    all-fit (has cells) (callSizes n b) (record { cells = l; handles = zero-le; left = zero-le; right = zero-le; work = zero-le })
+
 module _ (keys : List ℕ) (b seed₁ seed₂ : ℕ) (cells : List ℕ) (x : ℕ) where
-  pub says-short : length keys ≤ 32768 → 2 ≤ b → b ≤ 256 → length cells < callCells (length keys) b
-      → refused 4 1 ≡ callSays keys b seed₁ seed₂ cells x
+  pub says-short : length keys ≤ 32768 → 2 ≤ b → b ≤ 256 → {short : ℕ}
+      → short ≡ shortStore (has cells) (callSizes (length keys) b) → 0 < short
+      → refused 4 short ≡ callSays keys b seed₁ seed₂ cells x
   unfolding callSays
-  says-short h l m s =
-      let short = lt-ltb (length cells) (callCells (length keys) b) s in
-      rw (le-ltb 32768 (length keys) h, le-ltb b 2 l, le-ltb 256 b m, short)
+  says-short h l m is s = rw (← is) (sym (goes-on _ h (goes-on _ l (goes-on _ m (refuses _ _ s)))))
 
   pub says-rule : Askable keys b cells → callSays keys b seed₁ seed₂ cells x ≡ ruleSays keys b seed₁ seed₂ cells x
   unfolding callSays
   says-rule A =
-      rw (
-        le-ltb 32768 (length keys) (A .few),
-        le-ltb b 2 (A .two),
-        le-ltb 256 b (A .most),
-        le-ltb (length cells) (callCells (length keys) b) (A .cellsLong),
-      )
+      let enough : shortStore (has cells) (callSizes (length keys) b) ≤ 0 =
+      omega (arith, fit-asks (length keys) b cells (A .cellsLong)) in
+      goes-on _ (A .few) (goes-on _ (A .two) (goes-on _ (A .most) (goes-on _ enough refl)))
 
   pub by-the-rule : {said : CallSaid} → Askable keys b cells → said ≡ ruleSays keys b seed₁ seed₂ cells x
       → said ≡ callSays keys b seed₁ seed₂ cells x

@@ -1,6 +1,6 @@
 -- Document 01, "Call index": asking x.
 use mathlib.Core.Bool.{cond}
-use mathlib.Core.List.{List}
+use mathlib.Core.List.{List, []}
 use Prim.Native.Nat.{ℕ, _+_, _*_, _/_, _%_}
 use lib.Dec.{eqb, ltb}
 use lib.ListN.{length, drop}
@@ -9,7 +9,8 @@ use Rattle.words.specs.Keys.{prefixItem}
 use Rattle.cells.specs.Cells.{cellCount, mapValue}
 use Rattle.tables.specs.Tables.{mostKeys, keyAt}
 use Rattle.tables.specs.Delimiters.{buckets}
-use Rattle.tables.specs.Lengths.{callCells}
+use Rattle.stores.specs.Sizes.{shortStore, callSizes}
+use Rattle.stores.specs.Stores.{asked, sizesOf}
 use Rattle.callask.specs.declared.CallAnswer.{CallAnswer}
 use Rattle.callask.specs.declared.CallAnswer.the-variants as answer
 
@@ -46,7 +47,8 @@ ruleSays keys b seed₁ seed₂ cells x =
 -- the refusals before the rule, the lowest number first
 unfoldable pub callSays : List ℕ → ℕ → ℕ → ℕ → List ℕ → ℕ → CallSaid
 callSays keys b seed₁ seed₂ cells x =
+    let short = shortStore (sizesOf (asked cells [] [] [])) (callSizes (length keys) b) in
     cond (ltb mostKeys (length keys)) (refused 1 0)
     (cond (ltb b 2) (refused 2 0)
     (cond (ltb 256 b) (refused 2 0)
-    (cond (ltb (length cells) (callCells (length keys) b)) (refused 4 1) (ruleSays keys b seed₁ seed₂ cells x))))
+    (cond (ltb 0 short) (refused 4 short) (ruleSays keys b seed₁ seed₂ cells x))))

@@ -6,6 +6,7 @@ ghost use Prim.Native.Nat.{_<_};
 ghost use Rattle.callask.specs.Ask.{saidByCall, callSays, ruleSays, rowSays};
 ghost use Rattle.callask.specs.Inner.{Askable};
 use refusals::Refusal;
+use stores::Sizes;
 
 pub enum CallAnswer {
     Row(usize),
@@ -64,8 +65,16 @@ pub fn call_ask(keys: &[u64], b: usize, seed1: u64, seed2: u64, cells: &[u16], x
     if 256 < b {
         return CallAnswer::Refused(Refusal::BucketSize);
     }
-    if cells.len() < tables::lengths::call_cells(n, b) {
-        return CallAnswer::Refused(Refusal::Short(1));
+    let have = Sizes {
+        cells: cells.len(),
+        handles: 0,
+        left: 0,
+        right: 0,
+        work: 0,
+    };
+    let short = stores::short_store(have, stores::call_sizes(n, b));
+    if 0 < short {
+        return CallAnswer::Refused(Refusal::Short(short));
     }
     by_rule(keys, b, seed1, seed2, cells, x)
 }

@@ -1,6 +1,7 @@
 -- The worked cases of document 01, proved together: by computation, and over every store of an accepted build by the
 -- walk that needs no stores. Assumes nothing.
 use mathlib.Core.Path.{_≡_, refl, ap}
+use mathlib.Core.Bool.{true}
 use mathlib.Core.List.{List, [], _∷_}
 use Prim.Native.Nat.{ℕ, _≤_}
 use native.Mathlib.Omega.{arith}
@@ -12,39 +13,43 @@ use Rattle.cells.specs.Cells.{cellOf}
 use Rattle.tables.specs.Tables.{keyAt, Table, listed, count, smaller, sharedWith, sharedByAll}
 use Rattle.tables.specs.Buckets.{bucketLength}
 use Rattle.tables.proofs.Rising.{table-no-fall}
+use Rattle.stores.specs.Sizes.{fullSizes}
+use Rattle.stores.specs.Stores.{Seeds, seeds, sizesOf}
+use Rattle.stores.proofs.Judging.{passed-judged}
 use Rattle.splits.specs.Splits.{left, right, rootTo, parentLen, handleLen}
 use Rattle.splits.specs.Splits.{handleItem, handleSplit, leftEntry, rightEntry}
-use Rattle.items.specs.Items.{handleItems}
+use Rattle.items.specs.Items.{prefixItems, handleItems}
 use Rattle.items.proofs.Handling.{length-handles}
 use Rattle.jams.specs.Jam.{touch, sizeOf, Jamless}
 use Rattle.jams.specs.Inner.Peel.{touchb, live}
 use Rattle.jams.proofs.Jams.{all-peeled}
-use Rattle.jams.proofs.Ordering.{allBelow, order-test}
+use Rattle.jams.proofs.Ordering.{allBelow, orderb, order-test}
 use Rattle.jams.proofs.Jams.{one-item-never-jams}
 use Rattle.walks.specs.Walk.{Walk, accepted, descend, decide, walk, pathTo, pathWalk}
 use Rattle.walks.proofs.Testing.{tableb, table-by}
 use Rattle.neighbour.specs.Ask.{standsAt}
-use Rattle.neighbour.proofs.Judging.{none-applies}
+use Rattle.full.specs.Build.{NoJams}
 use Rattle.index.specs.Answers.{probesOf}
-use Rattle.index.specs.Worked.{eleven, three, Gives, ProbesAt, TakesSeed, SeedsAreTaken, worked, AllHold}
+use Rattle.index.specs.Worked.{eleven, three, Gives, ProbesAt, TakesSeeds, SeedsAreTaken, worked, AllHold}
 use Rattle.index.proofs.Answering.{counts-answer, walks-agree}
-use Rattle.index.proofs.Demands.{neighbour-refuses-jams}
+use Rattle.index.proofs.Demands.{build-refuses-jams}
 
 -- what an ask says over every store of an accepted build
 gives : (T : List ℕ) → Table T → (x : ℕ) → Gives T x (smaller T x) (probesOf T x) (standsAt T x (smaller T x))
-gives T t x seed h l r w h′ l′ r′ w′ B = counts-answer T seed h l r w h′ l′ r′ w′ (t .fits) B x
+gives T t x b s S S′ B = counts-answer B (t .fits) x
 
 probes-at : (T : List ℕ) → Table T → (x : ℕ) → ProbesAt T x (pathWalk T x .probed)
-probes-at T t x seed h l r w h′ l′ r′ w′ B =
-    ap (λ (v : Walk). v .probed) (walks-agree T seed h l r w h′ l′ r′ w′ (t .fits) B x)
+probes-at T t x b s S S′ B = ap (λ (v : Walk). v .probed) (walks-agree T b s S S′ (t .fits) B x)
 
--- without a jam the build takes the seed
-takes : (T : List ℕ) (seed : ℕ) → Table T → length T ≤ 32768 → Jamless seed (handleItems T)
-    → TakesSeed T seed
-takes T seed t few N handles left right work said h′ l′ r′ w′ hl ll rl wl B =
-    neighbour-refuses-jams T seed handles left right work said h′ l′ r′ w′ B
-    (none-applies T handles left right work few (omega (arith, table-no-fall T t)) hl ll rl wl) .1 .1
-    (λ J. N (J .0) (J .1))
+-- without a jam the build takes the seeds
+takes : (T : List ℕ) (b : ℕ) (s : Seeds) → Table T → length T ≤ 32768 → 2 ≤ b → b ≤ 256 → NoJams T b s
+    → TakesSeeds T b s
+takes T b s t few two most N S said S′ fits B =
+    build-refuses-jams T b s S said S′ B
+    (passed-judged T b (sizesOf S) (fullSizes (length T) b)
+    (record { few = few; two = two; most = most; rises = table-no-fall T t; fits = fits }))
+    .3 .1
+    ((λ J. N .one (J .0) (J .1)), (λ J. N .two (J .0) (J .1)), (λ J. N .three (J .0) (J .1)))
 
 three-table : Table three
 unfolding tableb
@@ -54,36 +59,61 @@ eleven-table : Table eleven
 unfolding tableb
 eleven-table = table-by eleven refl
 
--- the items of map 3 of the eleven keys, worked out
+-- the items of maps 2 and 3 of the eleven keys, and of map 2 of the three, worked out
+elevenPrefixes : List ℕ
+elevenPrefixes = 2305843009213693952 ∷ 2774217370460225536 ∷ 2787728169342337024 ∷ 4611686018427387904 ∷ []
+
 elevenHandles : List ℕ
 elevenHandles =
     2305843009213693952 ∷ 2702159776422297600 ∷ 2882303761517117440 ∷ 2756202971950743552 ∷ 2774217370460225536
     ∷ 2783224569714966528 ∷ 2785476369528651776 ∷ 2787728169342337024 ∷ 2810246167479189504 ∷ []
 
+eleven-prefixes : prefixItems 3 eleven ≡ elevenPrefixes
+unfolding elevenPrefixes prefixItems bucketLength sharedWith sharedByAll leadingZeros listed
+eleven-prefixes = refl
+
 eleven-handles : handleItems eleven ≡ elevenHandles
 unfolding elevenHandles handleItems handleItem handleSplit leadingZeros fattestFrom left right rootTo parentLen handleLen listed count
 eleven-handles = refl
 
--- with seed 0 they are peeled in this order, each alone at one of its cells
-elevenOrder : ℕ → ℕ
-elevenOrder p = getD (1 ∷ 3 ∷ 2 ∷ 0 ∷ 4 ∷ 6 ∷ 7 ∷ 5 ∷ 8 ∷ []) p 0
+three-prefixes : prefixItems 2 three ≡ 3 ∷ 9 ∷ []
+unfolding prefixItems bucketLength sharedWith sharedByAll leadingZeros listed
+three-prefixes = refl
 
-elevenCells : ℕ → ℕ
-elevenCells p = getD (14 ∷ 0 ∷ 16 ∷ 10 ∷ 5 ∷ 1 ∷ 4 ∷ 9 ∷ 3 ∷ []) p 0
+-- items that are peeled in this order, each alone at one of its cells
+abbrev at : List ℕ → ℕ → ℕ
+at xs p = getD xs p 0
 
-eleven-jamless : Jamless 0 elevenHandles
-unfolding elevenHandles elevenOrder elevenCells allBelow touchb live sizeOf cellOf mixOf xorshift
-eleven-jamless =
-    let cells = touch 0 elevenHandles in
-    all-peeled cells 9 elevenOrder elevenCells 9 (order-test cells 9 elevenOrder elevenCells refl) refl
+peeled : (seed : ℕ) (items order cells : List ℕ)
+    → orderb (touch seed items) (length items) (at order) (at cells) ≡ true → Jamless seed items
+peeled seed items order cells h =
+    all-peeled (touch seed items) (length items) (at order) (at cells) (length items)
+    (order-test (touch seed items) (length items) (at order) (at cells) h) refl
 
-three-jamless : (seed : ℕ) → Jamless seed (handleItems three)
-three-jamless seed = one-item-never-jams seed (handleItems three) (omega (arith, length-handles three))
+-- so they are with seed 0
+eleven-jamless : NoJams eleven 3 (seeds 0 0 0)
+unfolding elevenPrefixes elevenHandles allBelow touchb live sizeOf cellOf mixOf xorshift
+eleven-jamless = record {
+  one =
+      peeled 0 eleven (0 ∷ 1 ∷ 3 ∷ 2 ∷ 6 ∷ 5 ∷ 7 ∷ 8 ∷ 4 ∷ 9 ∷ 10 ∷ []) (11 ∷ 1 ∷ 10 ∷ 3 ∷ 16 ∷ 2 ∷ 7 ∷ 5 ∷ 18 ∷ 0 ∷ 6 ∷ []) refl;
+  two = rw eleven-prefixes (peeled 0 elevenPrefixes (0 ∷ 1 ∷ 2 ∷ 3 ∷ []) (6 ∷ 1 ∷ 0 ∷ 3 ∷ []) refl);
+  three =
+      rw eleven-handles
+      (peeled 0 elevenHandles (1 ∷ 3 ∷ 2 ∷ 0 ∷ 4 ∷ 6 ∷ 7 ∷ 5 ∷ 8 ∷ []) (14 ∷ 0 ∷ 16 ∷ 10 ∷ 5 ∷ 1 ∷ 4 ∷ 9 ∷ 3 ∷ []) refl);
+}
+
+three-jamless : (seed : ℕ) → NoJams three 2 (seeds 0 0 seed)
+unfolding allBelow touchb live sizeOf cellOf mixOf xorshift
+three-jamless seed = record {
+  one = peeled 0 three (0 ∷ 1 ∷ 2 ∷ []) (9 ∷ 0 ∷ 3 ∷ []) refl;
+  two = rw three-prefixes (peeled 0 (3 ∷ 9 ∷ []) (0 ∷ 1 ∷ []) (3 ∷ 2 ∷ []) refl);
+  three = one-item-never-jams seed (handleItems three) (omega (arith, length-handles three));
+}
 
 pub seeds-are-taken : SeedsAreTaken
 seeds-are-taken = (
-  takes eleven 0 eleven-table (omega arith) (rw eleven-handles eleven-jamless),
-  (λ seed. takes three seed three-table (omega arith) (three-jamless seed)),
+  takes eleven 3 (seeds 0 0 0) eleven-table (omega arith) (omega arith) (omega arith) eleven-jamless,
+  (λ seed. takes three 2 (seeds 0 0 seed) three-table (omega arith) (omega arith) (omega arith) (three-jamless seed)),
 )
 
 of-three : (x : ℕ) → Gives three x (smaller three x) (probesOf three x) (standsAt three x (smaller three x))

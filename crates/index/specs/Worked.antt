@@ -3,17 +3,19 @@
 use mathlib.Core.Path.{_≡_}
 use mathlib.Core.Bool.{Bool, true, false}
 use mathlib.Core.List.{List, [], _∷_, map}
-use Prim.Native.Nat.{ℕ, _*_, _^_, _≤_}
+use Prim.Native.Nat.{ℕ, _*_, _^_}
 use lib.ListN.{length}
 use Rattle.refusals.specs.Numbers.{BuildSaid, taken}
 use Rattle.cells.specs.Cells.{mapValue}
 use Rattle.tables.specs.Tables.{keyAt}
 use Rattle.tables.specs.Buckets.{bucketLength}
-use Rattle.tables.specs.Lengths.{handleCount, handleCells, neighbourWork}
+use Rattle.tables.specs.Lengths.{handleCount}
+use Rattle.stores.specs.Sizes.{Fits, fullSizes}
+use Rattle.stores.specs.Stores.{Stores, Seeds, seeds, sizesOf}
 use Rattle.splits.specs.Splits.{len, left, right, root, handleLen}
-use Rattle.neighbour.specs.Build.{NeighbourBuilt}
 use Rattle.walks.specs.Walk.{storeWalk}
 use Rattle.neighbour.specs.Ask.{place, neighbourSays}
+use Rattle.full.specs.Build.{FullBuilt}
 
 -- source 000, figure 1: 13-bit strings, each moved to the top of a key
 abbrev pub eleven : List ℕ
@@ -25,37 +27,33 @@ eleven = map (λ s. s * 2 ^ 51)
 abbrev pub three : List ℕ
 three = 2 ∷ 3 ∷ 8 ∷ []
 
--- what is said of every store that an accepted neighbour build left for a table, with any seed
-abbrev pub AfterBuild : List ℕ → (ℕ → List ℕ → List ℕ → List ℕ → Type 0) → Type 0
-AfterBuild T says =
-    (seed : ℕ) (handles left right work handles′ left′ right′ work′ : List ℕ)
-    → NeighbourBuilt T seed handles left right work taken handles′ left′ right′ work′
-    → says seed handles′ left′ right′
+-- what is said of every store that an accepted build left for a table, with any bucket size and any seeds
+abbrev pub AfterBuild : List ℕ → (ℕ → Stores → Type 0) → Type 0
+AfterBuild T says = (b : ℕ) (s : Seeds) (S S′ : Stores) → FullBuilt T b s S taken S′ → says (s .three) S′
 
 -- asking x gives so many before, with so many probes
 abbrev pub Gives : List ℕ → ℕ → ℕ → ℕ → Bool → Type 0
 Gives T x before probes stands =
-    AfterBuild T (λ seed handles left right. neighbourSays T handles left right seed x ≡ place before probes stands)
+    AfterBuild T (λ seed S. neighbourSays T (S .handles) (S .left) (S .right) seed x ≡ place before probes stands)
 
 -- asking x probes these lengths
 abbrev pub ProbesAt : List ℕ → ℕ → List ℕ → Type 0
 ProbesAt T x lengths =
     AfterBuild T
-    (λ seed handles left right.
-    storeWalk T x (mapValue handles (handleCount (length T)) seed) left right .probed ≡ lengths)
+    (λ seed S.
+    storeWalk T x (mapValue (S .handles) (handleCount (length T)) seed) (S .left) (S .right) .probed ≡ lengths)
 
--- a build with this seed and stores of the named lengths takes the table: its statement allows no other answer
-abbrev pub TakesSeed : List ℕ → ℕ → Type 0
-TakesSeed T seed =
-    (handles left right work : List ℕ) (said : BuildSaid) (handles′ left′ right′ work′ : List ℕ)
-    → handleCells (length T) ≤ length handles → length T ≤ length left → length T ≤ length right
-    → neighbourWork (length T) ≤ length work
-    → NeighbourBuilt T seed handles left right work said handles′ left′ right′ work′ → said ≡ taken
+-- a build with this bucket size, these seeds and stores of the named lengths takes the table: its statement allows no other
+-- answer
+abbrev pub TakesSeeds : List ℕ → ℕ → Seeds → Type 0
+TakesSeeds T b s =
+    (S : Stores) (said : BuildSaid) (S′ : Stores) → Fits (sizesOf S) (fullSizes (length T) b)
+    → FullBuilt T b s S said S′ → said ≡ taken
 
--- so there are stores that (6) speaks of: seed 0 is taken; and such that (7) to (10) speak of: every seed is, since
--- one item never jams
+-- so there are stores that (6) speaks of: seed 0 is taken for all maps; and such that (7) to (10) speak of: with it for
+-- maps 1 and 2 every seed of map 3 is, since one item never jams
 abbrev pub SeedsAreTaken : Type 0
-SeedsAreTaken = TakesSeed eleven 0 × ((seed : ℕ) → TakesSeed three seed)
+SeedsAreTaken = TakesSeeds eleven 3 (seeds 0 0 0) × ((seed : ℕ) → TakesSeeds three 2 (seeds 0 0 seed))
 
 -- (1) bucket lengths for B = 3, (2) len of the splits, (3) the root, (4) handle lengths, (5) split 6 covers rows 5 to
 -- 8, (6) asking row 6's key, (7) to (10) the four asks of the example of rowcheck

@@ -1,14 +1,18 @@
 -- What a build of one map determines.
 --     jam-of            a build that refuses has found a jam
+--     cells-beyond      past C(t) it keeps the cells
 --     fillings-alike    two fillings of the same items with the same values are alike
 --     map-determined    two outcomes of a build on the same input are the same, up to the filling
 -- Assumes nothing.
-use mathlib.Core.Path.{_≡_, sym, _∙_}
+use mathlib.Core.Path.{_≡_, sym, ap, _∙_}
 use mathlib.Core.List.{List}
 use mathlib.Core.Logic.{_⊎_, inl, inr}
 use Prim.Native.Nat.{ℕ, _<_}
-use native.Mathlib.Nat.{eq-zero-or-pos}
+use native.Mathlib.Nat.{eq-zero-or-pos, le-refl}
 use native.Mathlib.Omega.{arith}
+use lib.ListN.{length, drop}
+use Rattle.cells.specs.Cells.{cellCount}
+use Rattle.cells.proofs.Sweeping.{drop-cleared}
 use Rattle.jams.specs.Jam.{Jammed}
 use Rattle.jams.proofs.Jams.{jammed-not-jamless, largest-one-size}
 use Rattle.items.specs.Items.{itemsOf, valuesOf}
@@ -30,6 +34,18 @@ fillings-alike seed items values before a b F G =
 pub jam-of : (seed : ℕ) (items : List ℕ) {values cells work cells′ work′ : List ℕ} {size : ℕ}
     → Built seed items values cells work size cells′ work′ → 0 < size → Jammed seed items
 jam-of seed items B h = let L = B .refused h .0 in (L .0, L .1 .jam)
+
+-- whatever a build answers, the cells from C(t) on are as they were
+pub cells-beyond : (seed : ℕ) (items : List ℕ) {values cells work cells′ work′ : List ℕ} {size : ℕ}
+    → Built seed items values cells work size cells′ work′
+    → drop (cellCount (length items)) cells′ ≡ drop (cellCount (length items)) cells
+cells-beyond seed items {cells = cells} {size = size} B =
+    elim (eq-zero-or-pos size) [
+      | inl none ↦ B .accepted none .1 .beyond
+      | inr some ↦
+          let C = cellCount (length items) in
+          ap (drop C) (B .refused some .1) ∙ drop-cleared C C cells (le-refl C)
+    ]
 
 module _ (seed : ℕ) (items values cells work : List ℕ) where
   -- both accept, or both refuse and name one size

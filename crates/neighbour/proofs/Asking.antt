@@ -1,8 +1,8 @@
 -- What an ask says: what each answer says is told by no other, over what an accepted build leaves it is the number of
 -- smaller keys, and over any stores at most six probes are reported. Assumes nothing.
-use mathlib.Core.Path.{_≡_, refl, ap}
+use mathlib.Core.Path.{_≡_, refl, sym, ap}
 use mathlib.Core.Bool.{Bool, true, false, cond}
-use mathlib.Core.List.{List}
+use mathlib.Core.List.{List, []}
 use mathlib.Core.Logic.{_↔_}
 use Prim.Native.Nat.{ℕ, _+_, _-_, _≤_, _<_}
 use native.Mathlib.Nat.{le-refl}
@@ -12,22 +12,28 @@ use lib.Dec.{eqb, ltb}
 use lib.ListN.{length}
 use Rattle.words.specs.Fat.{binaryDigits}
 use Rattle.refusals.proofs.Naming.{refusal-told}
-use Rattle.cells.specs.Cells.{cellCount, mapValue}
+use Rattle.cells.specs.Cells.{mapValue}
 use Rattle.tables.specs.Tables.{mostKeys, keyAt, Table, smaller, sharedByAll}
 use Rattle.tables.specs.Lengths.{handleCount}
 use Rattle.splits.specs.Splits.{handleItem, handleSplit, leftEntry, rightEntry, leftStore, rightStore}
 use Rattle.basics.proofs.Bools.{both, differ}
 use Rattle.tables.proofs.Rising.{keys-rise}
+use Rattle.tables.proofs.Delimiting.{delimiters-one}
 use Rattle.splits.proofs.Parents.{left-root}
 use Rattle.splits.proofs.Handles.{handles-by-items}
 use Rattle.splits.proofs.Stores.{entered-at}
 use Rattle.walks.specs.Walk.{Answer, before, spoiled, pathWalk, storeWalk, Stored}
 use Rattle.places.specs.Said.{NeighbourSaid, place, refused, saidByNeighbour, standsAt, told, walkSays}
+use Rattle.places.specs.Inner.{Walkable}
 use Rattle.places.specs.declared.Place.{Place}
 use Rattle.places.specs.declared.NeighbourAnswer.{NeighbourAnswer}
 use Rattle.places.specs.declared.NeighbourAnswer.the-variants.{At, Refused}
 use Rattle.neighbour.specs.Ask.{neighbourSays}
-use Rattle.neighbour.proofs.Judging.{goes-on}
+use Rattle.stores.specs.Sizes.{shortStore, Fits, neighbourSizes}
+use Rattle.stores.specs.Stores.{asked, sizesOf}
+use Rattle.stores.specs.declared.Sizes.{Sizes}
+use Rattle.stores.proofs.Chains.{goes-on, refuses}
+use Rattle.stores.proofs.Judging.{none-short, all-fit}
 use Rattle.walks.proofs.Deciding.{smaller-low, smaller-high}
 use Rattle.walks.proofs.Descending.{onward-split}
 use Rattle.walks.proofs.Answering.{by-size, walk-none, walk-one, walk-probes, walk-six, path-answer, stored-walk}
@@ -91,13 +97,46 @@ module _ (T : List ℕ) (t : Table T) (handles lefts rights : List ℕ) (seed x 
   stored-says =
       rw (stored-walk T t x (mapValue handles (handleCount (length T)) seed) lefts rights S, path-answer T t x)
 
--- sizes that fit pass the tests for refusals 1 and 4
-pub sizes-pass : (T handles lefts rights : List ℕ) (seed x : ℕ) → length T ≤ mostKeys
-    → cellCount (handleCount (length T)) ≤ length handles
-    → length T ≤ length lefts → length T ≤ length rights
-    → neighbourSays T handles lefts rights seed x ≡ walkSays T handles lefts rights seed x
-unfolding neighbourSays
-sizes-pass T handles lefts rights seed x n h l r = goes-on _ n (goes-on _ h (goes-on _ l (goes-on _ r refl)))
+-- the stores that are lent, as refusal 4 judges them
+abbrev pub has : (handles lefts rights : List ℕ) → Sizes
+has handles lefts rights = sizesOf (asked [] handles lefts rights)
+
+-- refusals 1 and 4
+module _ (T handles lefts rights : List ℕ) (seed x : ℕ) where
+  pub says-many : mostKeys < length T → refused 1 0 ≡ neighbourSays T handles lefts rights seed x
+  unfolding neighbourSays
+  says-many h = sym (refuses _ _ h)
+
+  pub says-short : length T ≤ mostKeys → {short : ℕ}
+      → short ≡ shortStore (has handles lefts rights) (neighbourSizes (length T)) → 0 < short
+      → refused 4 short ≡ neighbourSays T handles lefts rights seed x
+  unfolding neighbourSays
+  says-short few is h = rw (← is) (sym (goes-on _ few (refuses _ _ h)))
+
+  -- sizes that fit pass the tests
+  pub sizes-pass : length T ≤ mostKeys → Fits (has handles lefts rights) (neighbourSizes (length T))
+      → neighbourSays T handles lefts rights seed x ≡ walkSays T handles lefts rights seed x
+  unfolding neighbourSays
+  sizes-pass few F =
+      let none : shortStore (has handles lefts rights) (neighbourSizes (length T)) ≤ 0 = omega
+      (arith, all-fit (has handles lefts rights) (neighbourSizes (length T)) F) in
+      goes-on _ few (goes-on _ none refl)
+
+  -- and where none is too short they fit the walk over the table, the delimiters of buckets of one row
+  pub walk-fits : length T ≤ mostKeys → {short : ℕ}
+      → short ≡ shortStore (has handles lefts rights) (neighbourSizes (length T)) → short ≤ 0
+      → Fits (has handles lefts rights) (neighbourSizes (length T)) × Walkable 1 T handles lefts rights
+  walk-fits few is h =
+      let F = none-short (has handles lefts rights) (neighbourSizes (length T)) (omega arith) in
+      let one = delimiters-one T in (
+        F,
+        record {
+          bucketed = record { some = omega arith; most = omega arith; rows = few };
+          some-handles = rw one (F .handles);
+          some-lefts = rw one (F .left);
+          some-rights = rw one (F .right);
+        },
+      )
 
 -- over any stores at most six probes are reported
 module _ (c p : ℕ) (s : Bool) where
@@ -123,11 +162,9 @@ module _ (c p : ℕ) (s : Bool) where
       → neighbourSays keys handles lefts rights seed x ≡ place c p s → p ≤ 6
   unfolding neighbourSays
   ask-six keys handles lefts rights seed x e =
-      let n = length keys in
+      let short = shortStore (has handles lefts rights) (neighbourSizes (length keys)) in
       walk-says-six keys handles lefts rights seed x
-      (past (ltb (length rights) n) 4 4 _
-      (past (ltb (length lefts) n) 4 3 _
-      (past (ltb (length handles) (cellCount (handleCount (length keys)))) 4 2 _ (past (ltb mostKeys n) 1 0 _ e))))
+      (past (ltb 0 short) 4 short _ (past (ltb mostKeys (length keys)) 1 0 _ e))
 
 -- the stores that the bounds are built into, with a map 3 that gives each of its items the split that it stands for,
 -- are what a build leaves

@@ -1,7 +1,7 @@
 -- The laws of the definitions in specs/, above those of `walks` and `places`.
---   Judging: refusals in their order     Asking:     the theorems on what an ask says
---   Storing: what a build leaves         Determined: that any two outcomes of an entry are one
-pub mod Judging
+--   Asking:  the theorems on what an ask says
+--   Storing: what the build of the stores leaves
+--   Determined: that any two answers of an ask are one
 pub mod Asking
 pub mod Storing
 pub mod Determined

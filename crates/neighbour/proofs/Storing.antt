@@ -1,30 +1,27 @@
 -- What the build of map 3 over the bounds of the splits leaves. Assumes nothing.
-use mathlib.Core.Path.{_≡_, refl, ap, _∙_}
+use mathlib.Core.Path.{_≡_, ap, _∙_}
 use mathlib.Core.List.{List, _++_}
-use Prim.Native.Nat.{ℕ, _-_, _≤_, _<_}
+use Prim.Native.Nat.{ℕ, _≤_}
 use native.Mathlib.Omega.{arith}
-use lib.ListN.{length, drop, replicate}
+use lib.ListN.{length, drop}
 use lib.Seq.{drop-at}
-use Rattle.refusals.specs.Numbers.{taken, refused}
-use Rattle.cells.specs.Cells.{cellCount, workCount}
+use Rattle.cells.specs.Cells.{workCount}
 use Rattle.cells.specs.Memory.{cleared}
 use Rattle.tables.specs.Tables.{Table, listed}
-use Rattle.tables.specs.Lengths.{handleCells, neighbourWork}
+use Rattle.tables.specs.Lengths.{handleCount, handleCells}
 use Rattle.tables.specs.Delimiters.{delimiters}
 use Rattle.tables.proofs.Lists.{length-listed}
 use Rattle.tables.proofs.Delimiting.{delimiters-one}
-use Rattle.splits.specs.Splits.{leftEntry, rightEntry, leftStore, rightStore}
-use Rattle.items.specs.Items.{handleItems, handleSplits}
+use Rattle.splits.specs.Splits.{leftEntry, rightEntry}
+use Rattle.items.specs.Items.{handleItems}
 use Rattle.items.proofs.Handling.{length-handles}
-use Rattle.maps.specs.Built.{Built, Room}
-use Rattle.neighbour.specs.Build.{StoresBuilt, jam₃, filled}
-use Rattle.neighbour.specs.Inner.{Storable}
+use Rattle.maps.specs.Built.{Room}
+use Rattle.maps.proofs.Determined.{cells-beyond}
+use Rattle.neighbour.specs.Inner.{Storable, StoresBuilt}
 
--- a store with its first n entries written, cleared over them
-clear-written : (n : ℕ) (entry : ℕ → ℕ) (old : List ℕ)
-    → cleared n (listed n entry ++ drop n old) ≡ cleared n old
-clear-written n entry old =
-    ap (λ (xs : List ℕ). replicate n 0 ++ xs) (drop-at (listed n entry) (drop n old) n (length-listed n entry))
+-- a store with its first n entries written
+written-beyond : (n : ℕ) (entry : ℕ → ℕ) (old : List ℕ) → drop n (listed n entry ++ drop n old) ≡ drop n old
+written-beyond n entry old = drop-at (listed n entry) (drop n old) n (length-listed n entry)
 
 -- the cells and the work are long enough for map 3
 pub handles-room : (b : ℕ) (keys handles left right work : List ℕ) → Storable b keys handles left right work
@@ -36,7 +33,7 @@ handles-room b keys handles left right work S =
 -- the table itself, with buckets of one row
 pub storable-table : (keys handles left right work : List ℕ) → Table keys → length keys ≤ 32768
     → handleCells (length keys) ≤ length handles
-    → length keys ≤ length left → length keys ≤ length right → neighbourWork (length keys) ≤ length work
+    → length keys ≤ length left → length keys ≤ length right → workCount (handleCount (length keys)) ≤ length work
     → Storable 1 keys handles left right work
 storable-table keys handles left right work t few hl ll rl wl =
     let one = delimiters-one keys in
@@ -49,20 +46,17 @@ storable-table keys handles left right work t few hl ll rl wl =
       workLong = rw one wl;
     }
 
-module _ (T : List ℕ) (seed : ℕ) (handles left right work handles′ work′ : List ℕ) (size : ℕ)
-    (B : Built seed (handleItems T) (handleSplits T) handles work size handles′ work′) where
-  swept : work′ ≡ cleared (neighbourWork (length T)) work
-  swept = B .swept ∙ ap (λ (t : ℕ). cleared (workCount t) work) (length-handles T)
+-- whatever the build of the stores answers, past their named lengths they are as they were
+module _ {T : List ℕ} {seed : ℕ} {handles left right work : List ℕ} {size : ℕ} {handles′ left′ right′ work′ : List ℕ}
+    (B : StoresBuilt T seed handles left right work size handles′ left′ right′ work′) where
+  pub handles-beyond : drop (handleCells (length T)) handles′ ≡ drop (handleCells (length T)) handles
+  handles-beyond = rw (length-handles T) at (cells-beyond seed (handleItems T) (B .map₃))
 
-  pub stores-filled : size ≡ 0 → (l r : List ℕ) → l ≡ leftStore T left → r ≡ rightStore T right
-      → StoresBuilt T seed handles left right work taken handles′ l r work′
-  stores-filled h l r el er = filled (B .accepted h .0) refl (B .accepted h .1) el er swept
+  pub left-beyond : drop (length T) left′ ≡ drop (length T) left
+  left-beyond = ap (drop (length T)) (B .lefts) ∙ written-beyond (length T) (leftEntry T) left
 
-  pub stores-jammed : 0 < size → (l r l′ r′ : List ℕ) → l ≡ leftStore T left → r ≡ rightStore T right
-      → l′ ≡ cleared (length T) l → r′ ≡ cleared (length T) r
-      → StoresBuilt T seed handles left right work (refused 5 3) handles′ l′ r′ work′
-  stores-jammed h l r l′ r′ el er fl fr =
-      let J = B .refused h in
-      jam₃ (J .0 .0, J .0 .1 .jam) refl (J .1 ∙ ap (λ (t : ℕ). cleared (cellCount t) handles) (length-handles T))
-      (fl ∙ ap (cleared (length T)) el ∙ clear-written (length T) (leftEntry T) left)
-      (fr ∙ ap (cleared (length T)) er ∙ clear-written (length T) (rightEntry T) right) swept
+  pub right-beyond : drop (length T) right′ ≡ drop (length T) right
+  right-beyond = ap (drop (length T)) (B .rights) ∙ written-beyond (length T) (rightEntry T) right
+
+  pub stores-swept : work′ ≡ cleared (workCount (handleCount (length T))) work
+  stores-swept = B .map₃ .swept ∙ ap (λ (t : ℕ). cleared (workCount t) work) (length-handles T)

@@ -2,13 +2,13 @@
 -- numbers. What an answer says, and what the walk says over a table and stores of fitting sizes, stands in
 -- places/specs/Said.antt and is handed on.
 use mathlib.Core.Bool.{cond}
-use mathlib.Core.List.{List}
+use mathlib.Core.List.{List, []}
 use Prim.Native.Nat.{ℕ}
 use lib.Dec.{ltb}
 use lib.ListN.{length}
-use Rattle.cells.specs.Cells.{cellCount}
 use Rattle.tables.specs.Tables.{mostKeys}
-use Rattle.tables.specs.Lengths.{handleCount}
+use Rattle.stores.specs.Sizes.{shortStore, neighbourSizes}
+use Rattle.stores.specs.Stores.{asked, sizesOf}
 pub use Rattle.places.specs.Said.{NeighbourSaid, place, refused, standsAt}
 unfoldable pub use Rattle.places.specs.Said.{saidByNeighbour, told, walkSays}
 
@@ -16,8 +16,6 @@ unfoldable pub use Rattle.places.specs.Said.{saidByNeighbour, told, walkSays}
 -- walk, which may give 6
 unfoldable pub neighbourSays : (keys handles lefts rights : List ℕ) → ℕ → ℕ → NeighbourSaid
 neighbourSays keys handles lefts rights seed x =
+    let short = shortStore (sizesOf (asked [] handles lefts rights)) (neighbourSizes (length keys)) in
     cond (ltb mostKeys (length keys)) (refused 1 0)
-    (cond (ltb (length handles) (cellCount (handleCount (length keys)))) (refused 4 2)
-    (cond (ltb (length lefts) (length keys)) (refused 4 3)
-    (cond (ltb (length rights) (length keys)) (refused 4 4)
-    (walkSays keys handles lefts rights seed x))))
+    (cond (ltb 0 short) (refused 4 short) (walkSays keys handles lefts rights seed x))

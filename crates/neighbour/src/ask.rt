@@ -4,6 +4,7 @@ ghost use Rattle.places.specs.Said.{saidByNeighbour};
 ghost use Rattle.neighbour.specs.Ask.{neighbourSays};
 use places::NeighbourAnswer;
 use refusals::Refusal;
+use stores::Sizes;
 
 // How many keys stand before x. Refusal 1 for more than 32,768 keys; 4 for the first store that is too short, of 2
 // handle cells, 3 left and 4 right; 6 for spoiled bounds.
@@ -22,14 +23,16 @@ pub fn neighbour_ask(
     if n > 32768 {
         return NeighbourAnswer::Refused(Refusal::TooManyKeys);
     }
-    if handles.len() < cells::cell_count(tables::lengths::handle_count(n)) {
-        return NeighbourAnswer::Refused(Refusal::Short(2));
-    }
-    if left.len() < n {
-        return NeighbourAnswer::Refused(Refusal::Short(3));
-    }
-    if right.len() < n {
-        return NeighbourAnswer::Refused(Refusal::Short(4));
+    let have = Sizes {
+        cells: 0,
+        handles: handles.len(),
+        left: left.len(),
+        right: right.len(),
+        work: 0,
+    };
+    let short = stores::short_store(have, stores::neighbour_sizes(n));
+    if 0 < short {
+        return NeighbourAnswer::Refused(Refusal::Short(short));
     }
     places::walk_from(keys, 1, seed3, handles, left, right, x)
 }

@@ -2,11 +2,11 @@
 // z-fast trie.
 //
 // Every function is proved and the crate assumes nothing. The entry `neighbour_ask` has no `requires`: whatever table
-// and stores it is lent, it answers or refuses as specs/Ask.antt says.
+// and stores it is lent, it answers or refuses as specs/Ask.antt says. `build` holds a part of the full build, which
+// asks for a table and stores that were judged.
 pub mod ask;
 pub mod build;
 
 pub use ask::neighbour_ask;
-pub use build::neighbour_build;
 pub use places::NeighbourAnswer;
 pub use places::Place;

@@ -1,4 +1,4 @@
-// Writes digests of what the neighbour index says over built and spoiled stores (docs/VECTORS.md).
+// Writes digests of what the neighbour index says over spoiled stores (docs/VECTORS.md).
 ghost use Prim.Native.Nat.{_≤_};
 use samples::store::Part;
 use samples::store::mixed;
@@ -8,7 +8,6 @@ use samples::table;
 use samples::table::Order;
 use samples::table::Sample;
 use samples::text;
-use samplings::Index;
 use samplings::asks::print_neighbour;
 use samplings::builds::first_taken;
 
@@ -55,9 +54,9 @@ fn block(sample: Sample, n: u16)
     table::fill(sample, Order::Rising, &mut keys);
     let rows = table::first(n as usize, &keys);
     text::table(sample, n as usize);
-    let seed = first_taken(Index::Neighbour, rows);
+    let seed = first_taken(rows, 2);
     text::number(b" seed=", seed);
-    print_neighbour(rows, seed, none(), none(), none());
+    text::word(b"\n");
     print_left(n, rows, seed);
     print_right(n, rows, seed);
 }

@@ -7,7 +7,7 @@ use Rattle.tables.specs.Delimiters.{delimiters, Bucketed}
 use Rattle.tables.specs.Lengths.{handleCount}
 
 -- a table and stores of fitting sizes
-pub record Sizes (b : ℕ) (keys handles lefts rights : List ℕ) : Type 0 where
+pub record Walkable (b : ℕ) (keys handles lefts rights : List ℕ) : Type 0 where
   pub bucketed : Bucketed b keys
   pub some-handles : cellCount (handleCount (length (delimiters b keys))) ≤ length handles
   pub some-lefts : length (delimiters b keys) ≤ length lefts

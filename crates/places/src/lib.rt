@@ -12,7 +12,7 @@ ghost use Rattle.splits.specs.Inner.{SplitOf, CountOf};
 ghost use Rattle.walks.specs.Walk.{before, decide};
 ghost use Rattle.descent.specs.Inner.{Lent};
 ghost use Rattle.places.specs.Said.{saidByNeighbour, told, walkSays};
-ghost use Rattle.places.specs.Inner.{Sizes};
+ghost use Rattle.places.specs.Inner.{Walkable};
 use descent::descend;
 use descent::on_path;
 use refusals::Refusal;
@@ -141,7 +141,7 @@ pub fn walk_from(
     right: &[u16],
     x: u64,
 ) -> NeighbourAnswer
-    requires { ⌜ Sizes b (now keys) (now handles) (now left) (now right) ⌝ }
+    requires { ⌜ Walkable b (now keys) (now handles) (now left) (now right) ⌝ }
     ensures { λ r. ⌜ saidByNeighbour r ≡ walkSays (delimiters b (now (keys .entry))) (now (handles .entry))
         (now (left .entry)) (now (right .entry)) seed3 x ⌝ }
 {

@@ -7,6 +7,7 @@ use native.Mathlib.Omega.{arith}
 use lib.ListN.{length, drop}
 use Rattle.tables.specs.Tables.{Table, firstFall}
 use Rattle.tables.proofs.Rising.{table-no-fall}
+use Rattle.full.proofs.Determined.{jam-not-none}
 use Rattle.rowinput.proofs.Determined.{one-reading}
 use Rattle.seeds.specs.Seeds.{SeedJams, SeedTaken}
 use Rattle.rowanswer.specs.Answers.{TableText, bucketSize, falls, jams, answers}
@@ -20,8 +21,7 @@ no-fall : (keys : List ℕ) → 0 < firstFall keys → Table keys → ⊥
 no-fall keys h t = omega (arith, table-no-fall keys t)
 
 jams-or-taken : (keys : List ℕ) (b s : ℕ) → SeedJams keys b s → SeedTaken keys b s → ⊥
-jams-or-taken keys b s J T =
-    ⊎-elim (λ p. T .0 (p .0) (p .1)) (⊎-elim (λ p. T .1 (p .0) (p .1)) (λ p. T .2 (p .0) (p .1))) J
+jams-or-taken keys b s J T = jam-not-none (J .1) T
 
 one-table-text : (keys : List ℕ) (b : ℕ) (asks t t′ : List ℕ) → TableText keys b asks t
     → TableText keys b asks t′ → t ≡ t′

@@ -3,6 +3,7 @@ ghost use mathlib.Core.Path.{_≡_};
 ghost use Prim.Native.Nat.{_≤_};
 ghost use lib.ListN.{length};
 ghost use Rattle.io.specs.Counts.{Counts};
+ghost use Rattle.stores.specs.Stores.{asked, same};
 ghost use Rattle.index.specs.Answers.{Answers};
 ghost use Rattle.refusals.specs.Numbers.{number};
 ghost use Rattle.rowoutput.specs.Output.{refusedText};
@@ -37,7 +38,7 @@ fn print_answers(
     asks: &[u64],
     out: &mut [u8],
 ) -> usize
-    requires { ⌜ Answers (now keys) b seed seed seed (now cells) (now handles) (now left) (now right) ⌝ }
+    requires { ⌜ Answers (now keys) b (same seed) (asked (now cells) (now handles) (now left) (now right)) ⌝ }
     ensures { λ r.
         ⌜ ShownWhereRoom (answered (now (keys .entry)) (now (asks .entry)))
         (now (out .entry)) r (now (out .exit)) ⌝ }

@@ -60,3 +60,19 @@ pub fn fill(part: Part, store: &mut [u16]) {
         i += 1;
     }
 }
+
+// The first n entries, or all where there are fewer.
+pub fn first(n: usize, store: &[u16]) -> &[u16] {
+    if store.len() < n {
+        return store;
+    }
+    &store[..n]
+}
+
+// The same, to be written.
+pub fn first_mut(n: usize, store: &mut [u16]) -> &mut [u16] {
+    if store.len() < n {
+        return store;
+    }
+    &mut store[..n]
+}

@@ -2,6 +2,7 @@
 use crate::table::Sample;
 use libc::STDOUT_FILENO;
 use refusals::Refusal;
+use refusals::Verdict;
 
 pub fn word(w: &[u8]) {
     io::write_all(STDOUT_FILENO, w);
@@ -19,9 +20,18 @@ pub fn hex(tag: &[u8], v: u64) {
     io::print_hex(STDOUT_FILENO, v, 16);
 }
 
-pub fn refused(r: Refusal) {
+fn refused(r: Refusal) {
     number(b"refused=", r.number());
     number(b".", r.named());
+}
+
+// A tag, and what a build says.
+pub fn said(tag: &[u8], v: Verdict) {
+    word(tag);
+    match v {
+        Verdict::Taken => word(b"taken"),
+        Verdict::Refused(r) => refused(r),
+    }
 }
 
 fn name(sample: Sample) {

@@ -1,16 +1,23 @@
 // The asks, and what is told of their answers. The stores are as long as 2,000 keys in buckets of two rows ask for.
-use crate::Index;
-use call::CallAnswer;
-use neighbour::NeighbourAnswer;
-use neighbour::Place;
+use callask::CallAnswer;
+use places::NeighbourAnswer;
+use places::Place;
 use refusals::Refusal;
 use samples::answer::digest;
 use samples::store;
 use samples::store::Part;
+use samples::store::none;
 use samples::text;
 use std::num::wrapping_add_u64;
 use std::num::wrapping_sub_u64;
 use words::product::wrapping_mul;
+
+// The index that is asked. The call index, of buckets of so many rows, has no `left` and no `right`: its cells stand in
+// their place.
+enum Index {
+    Call(usize),
+    Neighbour,
+}
 
 // An answer as a number, and what is counted of it: one for a row that was found, or the probes.
 struct Answer {
@@ -90,7 +97,7 @@ fn ask(
     x: u64,
 ) -> Answer {
     match index {
-        Index::Call(b) => by_call(call::call_ask(keys, b, seed, seed, cells, x)),
+        Index::Call(b) => by_call(callask::call_ask(keys, b, seed, seed, cells, x)),
         Index::Neighbour => by_neighbour(neighbour::neighbour_ask(
             keys,
             seed,
@@ -165,41 +172,87 @@ fn ask_all(
     )
 }
 
-// The end of a line: how many rows were found, and the digest.
-fn print_found(t: Tally) {
-    text::number(b" found=", t.sum);
-    text::hex(b" digest=", t.digest);
-    text::word(b"\n");
-}
-
-// The end of a line: all probes, the most of one ask, and the digest.
-fn print_probes(t: Tally) {
-    text::number(b" probes=", t.sum);
-    text::number(b" most=", t.most);
-    text::hex(b" digest=", t.digest);
-    text::word(b"\n");
-}
-
-// The asks of the call index over the cells that the build leaves, two parts of them filled anew. It has no `left` and
-// no `right`: its cells stand in their place.
-pub fn print_call(keys: &[u64], b: usize, seed: u64, low: Part, high: Part) {
+// The asks over the stores that the build leaves with the same seed for all maps, a part of some filled anew.
+fn ask_built(
+    index: Index,
+    keys: &[u64],
+    b: usize,
+    seed: u64,
+    of_handles: Part,
+    of_left: Part,
+    of_right: Part,
+) -> Tally {
     let mut cells = [0u16; 3798];
-    let mut work = [0u16; 9058];
-    call::call_build(keys, b, seed, seed, &mut cells, &mut work);
-    store::fill(low, &mut cells);
-    store::fill(high, &mut cells);
-    print_found(ask_all(Index::Call(b), keys, seed, &cells, &cells, &cells));
-}
-
-// The asks of the neighbour index over the stores that the build leaves, a part of each filled anew.
-pub fn print_neighbour(keys: &[u64], seed: u64, of_handles: Part, of_left: Part, of_right: Part) {
     let mut handles = [0u16; 2526];
     let mut left = [0u16; 2000];
     let mut right = [0u16; 2000];
-    let mut work = [0u16; 9048];
-    neighbour::neighbour_build(keys, seed, &mut handles, &mut left, &mut right, &mut work);
+    let mut work = [0u16; 9058];
+    full::full_build(
+        keys,
+        b,
+        seed,
+        seed,
+        seed,
+        &mut cells,
+        &mut handles,
+        &mut left,
+        &mut right,
+        &mut work,
+    );
     store::fill(of_handles, &mut handles);
     store::fill(of_left, &mut left);
     store::fill(of_right, &mut right);
-    print_probes(ask_all(Index::Neighbour, keys, seed, &handles, &left, &right));
+    match index {
+        Index::Call(_) => ask_all(index, keys, seed, &cells, &cells, &cells),
+        Index::Neighbour => ask_all(index, keys, seed, &handles, &left, &right),
+    }
+}
+
+// How many rows were found, and the digest.
+fn print_found(tag: &[u8], t: Tally) {
+    text::number(b" found=", t.sum);
+    text::hex(tag, t.digest);
+}
+
+// All probes, the most of one ask, and the digest.
+fn print_probes(tag: &[u8], t: Tally) {
+    text::number(b" probes=", t.sum);
+    text::number(b" most=", t.most);
+    text::hex(tag, t.digest);
+    text::word(b"\n");
+}
+
+// The asks over the stores just as the build leaves them.
+fn ask_true(index: Index, keys: &[u64], b: usize, seed: u64) -> Tally {
+    let part = none();
+    ask_built(index, keys, b, seed, part, part, part)
+}
+
+// The end of a line: the asks of both indexes over the stores that the build leaves.
+pub fn print_both(keys: &[u64], b: usize, seed: u64) {
+    print_found(b" call=", ask_true(Index::Call(b), keys, b, seed));
+    print_probes(b" neighbour=", ask_true(Index::Neighbour, keys, b, seed));
+}
+
+// The end of a line: the asks of the call index over cells that no build left, a part of them filled and the others 0.
+pub fn print_call(keys: &[u64], b: usize, part: Part) {
+    let mut cells = [0u16; 3798];
+    store::fill(part, &mut cells);
+    let found = ask_all(Index::Call(b), keys, 0, &cells, &cells, &cells);
+    print_found(b" digest=", found);
+    text::word(b"\n");
+}
+
+// The end of a line: the asks of the neighbour index over the stores that the build leaves, a part of each filled anew.
+pub fn print_neighbour(keys: &[u64], seed: u64, of_handles: Part, of_left: Part, of_right: Part) {
+    let probed = ask_built(
+        Index::Neighbour,
+        keys,
+        2,
+        seed,
+        of_handles,
+        of_left,
+        of_right,
+    );
+    print_probes(b" digest=", probed);
 }

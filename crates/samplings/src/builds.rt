@@ -1,41 +1,106 @@
-// What the builds say. Each builds in stores of its own, as long as 32,768 keys in buckets of 256 rows ask for.
-use crate::Index;
+// What the build says, and what it leaves in its stores.
 use refusals::Verdict;
+use samples::answer::digest_all;
+use samples::store;
+use samples::store::first;
+use samples::store::first_mut;
+use samples::store::mixed;
+use stores::Sizes;
 
-fn call_verdict(keys: &[u64], b: usize, seed: u64) -> Verdict {
-    let mut cells = [0u16; 41463];
-    let mut work = [0u16; 148126];
-    call::call_build(keys, b, seed, seed, &mut cells, &mut work)
+// What the build says, and the digest of what it leaves.
+pub struct Outcome {
+    pub said: Verdict,
+    pub digest: u64,
 }
 
-fn neighbour_verdict(keys: &[u64], seed: u64) -> Verdict {
-    let mut handles = [0u16; 41292];
-    let mut left = [0u16; 32768];
-    let mut right = [0u16; 32768];
-    let mut work = [0u16; 148116];
-    neighbour::neighbour_build(keys, seed, &mut handles, &mut left, &mut right, &mut work)
+// The first n entries of a store, filled so that what the build leaves alone differs from what it clears.
+fn lent(n: usize, store: &mut [u16]) -> &mut [u16] {
+    store::fill(mixed(0, n, 1, 65535), store);
+    first_mut(n, store)
 }
 
-// What the build says, with the same seed for all its maps.
-pub fn verdict(index: Index, keys: &[u64], seed: u64) -> Verdict {
-    match index {
-        Index::Call(b) => call_verdict(keys, b, seed),
-        Index::Neighbour => neighbour_verdict(keys, seed),
+// The digest with the first n entries of a store.
+fn digest_first(before: u64, n: usize, store: &[u16]) -> u64 {
+    digest_all(before, first(n, store))
+}
+
+// The same of a store of cells, but only after a refusal: which of the fitting fillings is written is free.
+fn digest_cells(said: Verdict, before: u64, n: usize, cells: &[u16]) -> u64 {
+    match said {
+        Verdict::Taken => before,
+        Verdict::Refused(_) => digest_first(before, n, cells),
     }
 }
 
-fn takes(index: Index, keys: &[u64], seed: u64) -> bool {
-    match verdict(index, keys, seed) {
+// Builds in stores of the lengths that are lent, at most those that 2,000 keys in buckets of two rows ask for.
+pub fn tried(
+    keys: &[u64],
+    b: usize,
+    seed1: u64,
+    seed2: u64,
+    seed3: u64,
+    lend: Sizes,
+    before: u64,
+) -> Outcome {
+    let mut cells = [0u16; 3798];
+    let mut handles = [0u16; 2526];
+    let mut left = [0u16; 2000];
+    let mut right = [0u16; 2000];
+    let mut work = [0u16; 9058];
+    let said = full::full_build(
+        keys,
+        b,
+        seed1,
+        seed2,
+        seed3,
+        lent(lend.cells, &mut cells),
+        lent(lend.handles, &mut handles),
+        lent(lend.left, &mut left),
+        lent(lend.right, &mut right),
+        lent(lend.work, &mut work),
+    );
+    let first = digest_cells(said, before, lend.cells, &cells);
+    let maps = digest_cells(said, first, lend.handles, &handles);
+    let bounds = digest_first(digest_first(maps, lend.left, &left), lend.right, &right);
+    Outcome {
+        said: said,
+        digest: digest_first(bounds, lend.work, &work),
+    }
+}
+
+// What the build says with the same seed for all maps, in stores as long as 32,768 keys in buckets of 256 rows ask for.
+pub fn verdict(keys: &[u64], b: usize, seed: u64) -> Verdict {
+    let mut cells = [0u16; 41463];
+    let mut handles = [0u16; 41292];
+    let mut left = [0u16; 32768];
+    let mut right = [0u16; 32768];
+    let mut work = [0u16; 148126];
+    full::full_build(
+        keys,
+        b,
+        seed,
+        seed,
+        seed,
+        &mut cells,
+        &mut handles,
+        &mut left,
+        &mut right,
+        &mut work,
+    )
+}
+
+fn takes(keys: &[u64], b: usize, seed: u64) -> bool {
+    match verdict(keys, b, seed) {
         Verdict::Taken => true,
         Verdict::Refused(_) => false,
     }
 }
 
-// The first seed that the build takes, of 0 to 255; 255 also where it takes none.
-pub fn first_taken(index: Index, keys: &[u64]) -> u64 {
+// The first seed of 0 to 255, the same for all maps, that the build takes; 255 also where it takes none.
+pub fn first_taken(keys: &[u64], b: usize) -> u64 {
     let mut seed = 0;
     while seed < 255 {
-        if takes(index, keys, seed) {
+        if takes(keys, b, seed) {
             return seed;
         }
         seed += 1;

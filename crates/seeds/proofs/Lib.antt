@@ -1,2 +1,2 @@
--- The laws of the definitions in specs/: what a seed's two builds leave, and why one is refused.
+-- The laws of the definitions in specs/: what a seed's build leaves, and why one is refused.
 pub mod Seeding

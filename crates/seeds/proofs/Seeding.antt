@@ -1,6 +1,6 @@
--- What the two builds of a seed leave, and which refusals a table can get from them: the stores are long enough, so
--- neither 1 nor 4. Assumes nothing.
-use mathlib.Core.Path.{_≡_, refl}
+-- What the build of a seed leaves, and which refusals a table can get from it: the stores are long enough, so neither 1
+-- nor 4. Assumes nothing.
+use mathlib.Core.Path.{_≡_, refl, sym, _∙_}
 use mathlib.Core.List.{List}
 use mathlib.Core.Logic.{_⊎_, inl, inr}
 use Prim.Native.Nat.{ℕ, _-_, _≤_, _<_}
@@ -15,18 +15,16 @@ use Rattle.cells.specs.Cells.{cellCount}
 use Rattle.tables.specs.Tables.{Table, firstFall}
 use Rattle.tables.specs.Delimiters.{buckets}
 use Rattle.tables.proofs.Delimiting.{buckets-le}
-use Rattle.tables.proofs.Rising.{no-fall-table, table-no-fall}
-use Rattle.items.specs.Items.{prefixItems, handleItems}
-use Rattle.jams.specs.Jam.{Jamless}
-use Rattle.call.specs.Build.{callJudged, MapsBuilt, jam₁, jam₂, CallBuilt}
-use Rattle.call.specs.Build as cb
-use Rattle.call.proofs.Judging as cj
-use Rattle.neighbour.specs.Build.{jam₃, NeighbourBuilt}
-use Rattle.neighbour.specs.Build as nb
-use Rattle.neighbour.proofs.Judging as nj
+use Rattle.tables.proofs.Rising.{no-fall-table}
+use Rattle.stores.specs.Sizes.{Fits, fullSizes}
+use Rattle.stores.specs.Stores.{Stores, lent, asked, same, sizesOf}
+use Rattle.stores.specs.declared.Sizes.{Sizes}
+use Rattle.stores.proofs.Judging.{falls-first, limits-pass, passed-judged}
+use Rattle.stores.proofs.Lending.{bucket-too-small, bucket-too-large, refused-by}
+use Rattle.full.specs.Build.{fullJudged, FullBuilt, refusal, jam, accepted}
 use Rattle.index.specs.Answers.{Words}
-use Rattle.index.proofs.Accepted.{call-accepted}
-use Rattle.index.proofs.Answering.{builds-answer}
+use Rattle.index.proofs.Accepted.{full-accepted, accepted-table}
+use Rattle.index.proofs.Answering.{build-answers}
 use Rattle.seeds.specs.Seeds.{SeedJams}
 use Rattle.seeds.specs.Inner.{Refuses, badBucket, falling, jammed, SeedTried}
 
@@ -43,97 +41,75 @@ module _ {keys : List ℕ} {b : ℕ} where
   refuses-by f (falling two most h e) = falling two most h e
   refuses-by f (jammed two most t J e) = jammed two most t (f e J) e
 
--- why the call build refuses, where nothing else is refused
-call-jam : (keys : List ℕ) (b s : ℕ) (cells work : List ℕ) (k i : ℕ) (c w : List ℕ)
-    → MapsBuilt keys b s s cells work (refused k i) c w
-    → SeedJams keys b s × (k ≡ 5)
-call-jam keys b s cells work k i c w (jam₁ J e f g) = (inl J, cc)
-call-jam keys b s cells work k i c w (jam₂ N J e f g) = (inr (inl J), cc)
-call-jam keys b s cells work k i c w (cb.filled N M e F g) = not-taken k i refl e
-
-call-jamless : (keys : List ℕ) (b s : ℕ) (cells work c w : List ℕ) → CallBuilt keys b s s cells work taken c w
-    → Jamless s keys × Jamless s (prefixItems b keys)
-call-jamless keys b s cells work c w (cb.refusal k i j e f g) = not-taken k i e refl
-call-jamless keys b s cells work c w (cb.verdict j (jam₁ J e f g)) = not-taken 5 1 e refl
-call-jamless keys b s cells work c w (cb.verdict j (jam₂ N J e f g)) = not-taken 5 2 e refl
-call-jamless keys b s cells work c w (cb.verdict j (cb.filled N M e F g)) = (N, M)
-
 -- a table of rowcheck, with stores for 2,048 keys
-module _ (keys : List ℕ) (w : Words keys) (few : length keys ≤ 2048) (b s : ℕ) (cells work : List ℕ)
-    (ec : length cells ≡ 5178) (ew : length work ≡ 9274) where
-  -- by what the call build judges: 2, 3, or nothing
-  judging : {A : Type 0} → ((b < 2) ⊎ (256 < b) → callJudged keys b cells work ≡ refused 2 0 → A)
-      → (2 ≤ b → b ≤ 256 → 0 < firstFall keys → callJudged keys b cells work ≡ refused 3 (firstFall keys) → A)
-      → (2 ≤ b → b ≤ 256 → Table keys → callJudged keys b cells work ≡ taken → A) → A
+module _ (keys : List ℕ) (words : Words keys) (few : length keys ≤ 2048) (b s : ℕ) (cells handles left right work : List ℕ)
+    (ec : length cells ≡ 5178) (eh : length handles ≡ 2589) (el : length left ≡ 2048) (er : length right ≡ 2048)
+    (ew : length work ≡ 9274) where
+  abbrev S : Stores
+  S = lent cells handles left right work
+
+  abbrev want : Sizes
+  want = fullSizes (length keys) b
+
+  -- the stores have their named lengths
+  fits : 1 ≤ b → Fits (sizesOf S) want
+  fits one =
+      let n = length keys in
+      let k = buckets n b in
+      let fewer : k ≤ n = buckets-le n b one in
+      let cells₁ : cellCount n ≤ 2589 = omega arith in
+      let cells₂ : cellCount k ≤ 2589 = omega arith in
+      let cells₃ : cellCount (n - 2) ≤ 2589 = omega arith in
+      record { cells = omega arith; handles = omega arith; left = omega arith; right = omega arith; work = omega arith }
+
+  -- by what the build judges: 2, 3, or nothing
+  judging : {A : Type 0} → ((b < 2) ⊎ (256 < b) → fullJudged keys b S ≡ refused 2 0 → A)
+      → (2 ≤ b → b ≤ 256 → 0 < firstFall keys → fullJudged keys b S ≡ refused 3 (firstFall keys) → A)
+      → (2 ≤ b → b ≤ 256 → Table keys → fullJudged keys b S ≡ taken → A) → A
   judging size fall none =
-      let all : length keys ≤ 32768 = omega arith in
+      let n = length keys in
+      let all : n ≤ 32768 = omega arith in
+      let refuse = refused-by keys b 2 0 (sizesOf S) want in
       elim (decLe 2 b) [
-        | no h ↦ size (inl (omega arith)) (cj.bucket-too-small keys b cells work all (omega arith))
+        | no h ↦ size (inl (omega arith)) (refuse (bucket-too-small n b all (omega arith)))
         | yes two ↦ elim (decLe b 256) [
-          | no h ↦ size (inr (omega arith)) (cj.bucket-too-large keys b cells work all two (omega arith))
+          | no h ↦ size (inr (omega arith)) (refuse (bucket-too-large n b all two (omega arith)))
           | yes most ↦ elim (decLe (firstFall keys) 0) [
             | no h ↦ fall two most (omega arith)
-                (cj.falls keys b cells work all two most (firstFall keys) refl (omega arith))
+                (limits-pass keys b (sizesOf S) want all two most
+                ∙ sym (falls-first keys (sizesOf S) want refl refl (omega arith)))
             | yes rises ↦
-                let n = length keys in
-                let k = buckets n b in
-                let fewer : k ≤ n = buckets-le n b (omega arith) in
-                let cells₁ : cellCount n ≤ 2589 = omega arith in
-                let cells₂ : cellCount k ≤ 2589 = omega arith in
-                none two most (no-fall-table keys w (omega arith))
-                (cj.none-applies keys b cells work all two most rises (omega arith) (omega arith))
+                let zero : firstFall keys ≡ 0 = omega arith in
+                none two most (no-fall-table keys words zero)
+                (passed-judged keys b (sizesOf S) want
+                (record { few = all; two = two; most = most; rises = zero; fits = fits (omega arith) }))
           ]
         ]
       ]
 
-  pub call-refuses : (k i : ℕ) (c v : List ℕ) → CallBuilt keys b s s cells work (refused k i) c v
+  -- a build that refuses: the table is refused, or the seed jams
+  refuses : (k i : ℕ) (S′ : Stores) → FullBuilt keys b (same s) S (refused k i) S′
       → Refuses keys b (SeedJams keys b s) k
-  call-refuses k i c v (cb.refusal k′ i′ j e f g) =
+  refuses k i S′ (refusal k′ i′ j e c) =
       judging (λ o t. badBucket o (cc)) (λ two most h t. falling two most h (cc))
       (λ two most T t. not-taken k′ i′ j t)
-  call-refuses k i c v (cb.verdict j M) =
-      let J = call-jam keys b s cells work k i c v M in
+  refuses k i S′ (jam map j F e c) =
       judging (λ o t. not-taken 2 0 t j) (λ two most h t. not-taken 3 (firstFall keys) t j)
-      (λ two most T t. jammed two most T (J .0) (J .1))
+      (λ two most T t. jammed two most T (map, F) (cc))
+  refuses k i S′ (accepted j N e F) = not-taken k i refl e
 
-  -- the call build took the seed, and then the neighbour build says what it says
-  module _ (c v : List ℕ) (B : CallBuilt keys b s s cells work taken c v) (h l r u h′ l′ r′ u′ : List ℕ)
-      (eh : length h ≡ 2589) (el : length l ≡ 2048)
-      (er : length r ≡ 2048) (eu : length u ≡ 9274) where
-    T : Table keys
-    T = no-fall-table keys w (call-accepted keys b s s cells work c v B .rises)
-
-    -- only a jam can be refused
-    neighbour-jam : (k i : ℕ) → NeighbourBuilt keys s h l r u (refused k i) h′ l′ r′ u′
-        → SeedJams keys b s × (k ≡ 5)
-    neighbour-jam k i (nb.refusal k′ i′ j e x y z q) =
-        let n = length keys in
-        let small : cellCount (n - 2) ≤ 2589 = omega arith in
-        not-taken k′ i′ j
-        (nj.none-applies keys h l r u (omega arith) (omega (arith, table-no-fall keys T)) (omega arith) (omega arith)
-        (omega arith) (omega arith))
-    neighbour-jam k i (nb.verdict j (jam₃ J e x y z q)) = (inr (inr J), cc)
-    neighbour-jam k i (nb.verdict j (nb.filled N e F x y z)) = not-taken k i refl e
-
-    neighbour-jamless : NeighbourBuilt keys s h l r u taken h′ l′ r′ u′ → Jamless s (handleItems keys)
-    neighbour-jamless (nb.refusal k i j e x y z q) = not-taken k i e refl
-    neighbour-jamless (nb.verdict j (jam₃ J e x y z q)) = not-taken 5 3 e refl
-    neighbour-jamless (nb.verdict j (nb.filled N e F x y z)) = N
-
-    pub neighbour-tried : (said : Verdict) → NeighbourBuilt keys s h l r u (saidByBuild said) h′ l′ r′ u′
-        → SeedTried keys b s c h′ l′ r′ said
-    unfolding SeedTried
-    neighbour-tried Taken C =
-        let A = call-accepted keys b s s cells work c v B in
-        let J = call-jamless keys b s cells work c v B in
-        record {
-          two = A .two;
-          most = A .most;
-          table = T;
-          taken = (J .0, J .1, neighbour-jamless C);
-          answers = builds-answer keys b s s s cells work c v h l r u h′ l′ r′ u′ w B C;
-        }
-    neighbour-tried (Refused f) C =
-        let A = call-accepted keys b s s cells work c v B in
-        let J = neighbour-jam _ _ C in
-        jammed (A .two) (A .most) T (J .0) (J .1)
+  pub tried : (said : Verdict) (c h l r w : List ℕ)
+      → FullBuilt keys b (same s) S (saidByBuild said) (lent c h l r w) → SeedTried keys b s (asked c h l r) said
+  unfolding SeedTried
+  tried Taken c h l r w B =
+      let A = full-accepted B in
+      let P = A .passed in
+      let both = build-answers keys b (same s) S (lent c h l r w) words B in
+      record {
+        two = P .two;
+        most = P .most;
+        table = accepted-table A words;
+        taken = A .jamless;
+        answers = record { calls = both .calls; counts = both .counts };
+      }
+  tried (Refused f) c h l r w B = refuses _ _ _ B

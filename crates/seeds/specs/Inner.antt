@@ -7,6 +7,7 @@ use Rattle.refusals.specs.Numbers.{number}
 use Rattle.refusals.specs.declared.Verdict.{Verdict}
 use Rattle.refusals.specs.declared.Verdict.the-variants as verdict
 use Rattle.tables.specs.Tables.{Table, firstFall}
+use Rattle.stores.specs.Stores.{Stores, same}
 use Rattle.index.specs.Answers.{Answers}
 use Rattle.seeds.specs.Seeds.{SeedJams, SeedTaken}
 use Rattle.seeds.specs.declared.Choice.{Choice}
@@ -19,22 +20,19 @@ pub data Refuses (keys : List ℕ) (b : ℕ) (Jams : Type 0) (k : ℕ) : Type 0 
   jammed : 2 ≤ b → b ≤ 256 → Table keys → Jams → k ≡ 5 → Refuses keys b Jams k
 
 -- a seed that is taken, with stores that answer
-pub record Took (keys : List ℕ) (b seed : ℕ) (cells handles left right : List ℕ) : Type 0 where
+pub record Took (keys : List ℕ) (b seed : ℕ) (S : Stores) : Type 0 where
   pub two : 2 ≤ b
   pub most : b ≤ 256
   pub table : Table keys
   pub taken : SeedTaken keys b seed
-  pub answers : Answers keys b seed seed seed cells handles left right
+  pub answers : Answers keys b (same seed) S
 
--- what both builds say of a seed: it is taken, or refused with its own jam
-unfoldable pub SeedTried : List ℕ → ℕ → ℕ → List ℕ → List ℕ → List ℕ → List ℕ → Verdict
-    → Type 0
-SeedTried keys b seed cells handles left right verdict.Taken = Took keys b seed cells handles left right
-SeedTried keys b seed cells handles left right (verdict.Refused f) = Refuses keys b (SeedJams keys b seed) (number f)
+-- what the build says of a seed: it is taken, or refused with its own jam
+unfoldable pub SeedTried : List ℕ → ℕ → ℕ → Stores → Verdict → Type 0
+SeedTried keys b seed S verdict.Taken = Took keys b seed S
+SeedTried keys b seed S (verdict.Refused f) = Refuses keys b (SeedJams keys b seed) (number f)
 
 -- the first of the seeds 0 to 255 that is taken; or the table is refused, with jams of all of them
-unfoldable pub Chose : List ℕ → ℕ → List ℕ → List ℕ → List ℕ → List ℕ → Choice → Type 0
-Chose keys b cells handles left right (Seed seed) =
-    (seed < 256) × ((s : ℕ) → s < seed → SeedJams keys b s) × Took keys b seed cells handles left right
-Chose keys b cells handles left right (Refused f) =
-    Refuses keys b ((s : ℕ) → s < 256 → SeedJams keys b s) (number f)
+unfoldable pub Chose : List ℕ → ℕ → Stores → Choice → Type 0
+Chose keys b S (Seed seed) = (seed < 256) × ((s : ℕ) → s < seed → SeedJams keys b s) × Took keys b seed S
+Chose keys b S (Refused f) = Refuses keys b ((s : ℕ) → s < 256 → SeedJams keys b s) (number f)

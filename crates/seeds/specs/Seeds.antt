@@ -1,13 +1,12 @@
--- Document 01, "`rowcheck`": the seeds that a table takes.
+-- Document 01, "`rowcheck`", and request Seven: the seeds that a table takes, the same for all maps.
 use mathlib.Core.List.{List}
-use mathlib.Core.Logic.{_⊎_}
 use Prim.Native.Nat.{ℕ}
-use Rattle.items.specs.Items.{prefixItems, handleItems}
-use Rattle.jams.specs.Jam.{Jammed, Jamless}
+use Rattle.stores.specs.Stores.{same}
+use Rattle.full.specs.Build.{FirstJam, NoJams}
 
--- a seed, the same for all maps, is refused if one of the three maps has a jam, and taken if none has
+-- a seed is refused if one of the three maps has a jam, and taken if none has
 abbrev pub SeedJams : List ℕ → ℕ → ℕ → Type 0
-SeedJams keys b seed = Jammed seed keys ⊎ (Jammed seed (prefixItems b keys) ⊎ Jammed seed (handleItems keys))
+SeedJams keys b seed = (map : ℕ) × FirstJam keys b (same seed) map
 
 abbrev pub SeedTaken : List ℕ → ℕ → ℕ → Type 0
-SeedTaken keys b seed = Jamless seed keys × Jamless seed (prefixItems b keys) × Jamless seed (handleItems keys)
+SeedTaken keys b seed = NoJams keys b (same seed)

@@ -1,9 +1,10 @@
-// The first seed that both builds take (document 01, "`rowcheck`"): seeds 0, 1, .. 255, the same for all maps, in stores as long as 2,048 keys can
-// want.
+// The first seed that the build takes (document 01, "`rowcheck`", and request Seven): seeds 0, 1, .. 255, the same for
+// all maps, in stores as long as 2,048 keys can want.
 //
 // Every function is proved and the crate assumes nothing.
 ghost use Prim.Native.Nat.{_≤_};
 ghost use lib.ListN.{length};
+ghost use Rattle.stores.specs.Stores.{asked};
 ghost use Rattle.seeds.specs.Inner.{SeedTried, Chose};
 use index::Refusal;
 use index::Verdict;
@@ -14,7 +15,7 @@ pub enum Choice {
     Refused(Refusal),
 }
 
-// What both builds say of the seed, the same for all maps.
+// What the build says of the seed, the same for all maps.
 fn try_seed(
     keys: &[u64],
     b: usize,
@@ -28,12 +29,9 @@ fn try_seed(
     requires { ⌜ length (now keys) ≤ 2048 ⌝ }
     ensures { λ r.
         ⌜ SeedTried (now (keys .entry)) b seed
-        (now (cells .exit)) (now (handles .exit)) (now (left .exit)) (now (right .exit)) r ⌝ }
+        (asked (now (cells .exit)) (now (handles .exit)) (now (left .exit)) (now (right .exit))) r ⌝ }
 {
-    match index::call_build(keys, b, seed, seed, cells, work) {
-        Verdict::Taken => index::neighbour_build(keys, seed, handles, left, right, work),
-        Verdict::Refused(refusal) => Verdict::Refused(refusal),
-    }
+    index::full_build(keys, b, seed, seed, seed, cells, handles, left, right, work)
 }
 
 // Tries seeds 0, 1, .. 255. Only a jam goes on to the next: any other refusal is the table's.
@@ -49,7 +47,7 @@ pub fn first_seed(
     requires { ⌜ length (now keys) ≤ 2048 ⌝ }
     ensures { λ r.
         ⌜ Chose (now (keys .entry)) b
-        (now (cells .exit)) (now (handles .exit)) (now (left .exit)) (now (right .exit)) r ⌝ }
+        (asked (now (cells .exit)) (now (handles .exit)) (now (left .exit)) (now (right .exit))) r ⌝ }
 {
     let mut seed: u64 = 0;
     loop {

@@ -1,17 +1,10 @@
--- What the contracts determine: for all inputs, any two outcomes that meet the contract are equal.
+-- What the contract of the bucket view determines: for all inputs, any two outcomes that meet it are equal.
 use mathlib.Core.Path.{_≡_}
 use mathlib.Core.List.{List}
 use Prim.Native.Nat.{ℕ, _+_, _*_}
 use lib.ListN.{length}
 use denote.Ref.{RefT, now}
 use Rattle.tables.specs.Buckets.{bucketView, viewStart}
-use Rattle.tables.specs.Lengths.{saidByLend, namedLengths}
-use Rattle.tables.specs.declared.lengths.Lend.{Lend}
-
--- the named lengths
-abbrev pub LengthsDetermined : Type 0
-LengthsDetermined =
-    (n b : ℕ) (r r′ : Lend) → saidByLend r ≡ namedLengths n b → saidByLend r′ ≡ namedLengths n b → r ≡ r′
 
 -- the bucket view: its rows, and where in the caller's memory they stand
 pub record Viewed (keys : RefT (List ℕ)) (b i : ℕ) (r : RefT (List ℕ)) : Type 0 where

@@ -1,9 +1,15 @@
 -- `callask::call_ask` meets its contract: the refusals of the definition in its order, then the rule. Assumes
 -- nothing.
+use mathlib.Core.Path.{_≡_}
+use mathlib.Core.List.{[]}
 use borrow.Author.Needs.{needs}
 use borrow.Author.Tests.{lt-ltb, le-ltb}
+use lib.ListN.{length}
+use Rattle.stores.specs.Sizes.{shortStore, callSizes}
+use Rattle.stores.specs.Stores.{asked, sizesOf}
 use Rattle.callask.specs.Ask.{callSays}
-use Rattle.callask.proofs.Asking.{says-short, by-the-rule}
+use Rattle.callask.specs.Inner.{Askable}
+use Rattle.callask.proofs.Asking.{asks-fit, says-short, by-the-rule}
 use Rattle.callask.proofs.call_ask.Statement.{statement}
 use Rattle.callask.proofs.call_ask.Tie as tie
 
@@ -19,28 +25,35 @@ returns-3 : tie.Need-returns-3
 unfolding callSays
 returns-3 c = search (needs, lt-ltb, le-ltb)
 
+abbrev start : tie.Else3 → tie.Start
+start e = e .before .before .before .before .before
+
+-- the number of the store that is too short
+short-is : (p : tie.After-short-store) → let a = start (p .before .before) .args in
+    p .short-store .result
+    ≡ shortStore (sizesOf (asked (a .cells .now) [] [] [])) (callSizes (length (a .keys .now)) (a .b))
+short-is p = rw (p .before .call-sizes .ensures) at (p .short-store .ensures)
+
 returns-4 : tie.Need-returns-4
 returns-4 c =
-    let e = c .before in
-    let s = e .before .before .before .before .before .before in
-    says-short (s .args .keys .now) (s .args .b) (s .args .seed1) (s .args .seed2) (s .args .cells .now) (s .args .x)
-    (e .before .before .before .if1 .left) (e .before .before .if2 .left) (e .before .if3 .left)
-    (rw (e .call-cells .ensures) at (c .if4 .taken))
+    let p = c .before in
+    let e = p .before .before in
+    says-short _ _ _ _ _ _ (e .before .before .if1 .left) (e .before .if2 .left) (e .if3 .left) (short-is p) (c .if4 .taken)
+
+askable : (g : tie.Else4) → let a = start (g .before .before .before) .args in Askable (a .keys .now) (a .b) (a .cells .now)
+askable g =
+    let e = g .before .before .before in
+    record {
+      few = e .before .before .if1 .left;
+      two = e .before .if2 .left;
+      most = e .if3 .left;
+      cellsLong = asks-fit _ _ (start e .args .cells .now) (short-is (g .before)) (g .if4 .left);
+    }
 
 returns-5 : tie.Need-returns-5
-returns-5 c =
-    let e = c .before .before in
-    let s = e .before .before .before .before .before .before in
-    by-the-rule (s .args .keys .now) (s .args .b) (s .args .seed1) (s .args .seed2) (s .args .cells .now) (s .args .x)
-    (record {
-      few = e .before .before .before .if1 .left;
-      two = e .before .before .if2 .left;
-      most = e .before .if3 .left;
-      cellsLong = rw (e .call-cells .ensures) at (c .before .if4 .left);
-    })
-    (c .by-rule .ensures)
+returns-5 c = by-the-rule _ _ _ _ _ _ (askable (c .before)) (c .by-rule .ensures)
 
 pub call-ask-spec : {M : Type 1} → statement M
 call-ask-spec =
     tie.close
-    (tie.spec returns returns-2 returns-3 (λ c κs. search needs) returns-4 (λ c κs. search needs) returns-5)
+    (tie.spec returns returns-2 returns-3 (λ c κs. search needs) (λ c κs. search needs) returns-4 (λ c κs. askable c) returns-5)

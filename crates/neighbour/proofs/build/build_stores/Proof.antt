@@ -1,16 +1,10 @@
 -- `neighbour::build::build_stores` meets its contract: the bounds are written, and map 3 is built over them. Assumes
 -- nothing.
-use mathlib.Core.Path.{ap, _∙_}
-use Prim.Native.Nat.{ℕ}
-use native.Mathlib.Omega.{arith}
-use denote.Ref.{now}
 use borrow.Author.Needs.{needs}
-use Rattle.cells.specs.Memory.{cleared}
-use Rattle.tables.specs.Delimiters.{delimiters}
 use Rattle.tables.proofs.Delimiting.{delimiters-table}
 use Rattle.items.specs.Items.{itemsOf, valuesOf}
 use Rattle.items.proofs.Handling.{stores-bounds}
-use Rattle.neighbour.proofs.Storing.{handles-room, stores-filled, stores-jammed}
+use Rattle.neighbour.proofs.Storing.{handles-room}
 use Rattle.neighbour.proofs.build.build_stores.Statement.{statement}
 use Rattle.neighbour.proofs.build.build_stores.Tie as tie
 
@@ -44,34 +38,9 @@ build-requires c κs =
 returns : tie.Need-returns
 unfolding itemsOf valuesOf
 returns c =
-    let t = c .before .before .before .before .before .before .before .before .before in
-    let m = t .before .before .before .before .before in
+    let m = c .before .before .before .before in
     let e = m .before .before .before .before .before .before .before .before .before in
-    let s = e .before .before .before .before .before .before .before .before in
-    let d = c .before .before .before .before .before .before .before .before .delimiter-count .ensures .0 in
-    stores-jammed (delimiters (s .args .b) (s .args .keys .now)) (s .args .seed3) (s .args .handles .now)
-    (s .args .left .now) (s .args .right .now) (s .args .work .now)
-    (m .build .last .1 .1 .1 .1 .1 .1 .0) (m .build .last .1 .1 .1 .1 .1 .1 .1 .0) (m .build .result)
-    (m .build .ensures) (t .if1 .taken)
-    (e .build-bounds .last .1 .1 .0) (e .build-bounds .last .1 .1 .1 .0)
-    (c .before .before .before .before .before .before .clear .last .0) (c .before .before .clear2 .last .0)
-    (e .build-bounds .ensures .0) (e .build-bounds .ensures .1)
-    (c .before .before .before .before .before .before .clear .ensures
-    ∙ ap (λ (n : ℕ). cleared n (e .build-bounds .last .1 .1 .0)) d)
-    (c .before .before .clear2 .ensures ∙ ap (λ (n : ℕ). cleared n (e .build-bounds .last .1 .1 .1 .0)) d)
-
-returns-2 : tie.Need-returns-2
-unfolding itemsOf valuesOf
-returns-2 c =
-    let m = c .before .before .before .before .before in
-    let e = m .before .before .before .before .before .before .before .before .before in
-    let s = e .before .before .before .before .before .before .before .before in
-    stores-filled (delimiters (s .args .b) (s .args .keys .now)) (s .args .seed3) (s .args .handles .now)
-    (s .args .left .now) (s .args .right .now) (s .args .work .now)
-    (m .build .last .1 .1 .1 .1 .1 .1 .0) (m .build .last .1 .1 .1 .1 .1 .1 .1 .0) (m .build .result)
-    (m .build .ensures) (omega (arith, c .if1 .left))
-    (e .build-bounds .last .1 .1 .0) (e .build-bounds .last .1 .1 .1 .0) (e .build-bounds .ensures .0)
-    (e .build-bounds .ensures .1)
+    record { map₃ = m .build .ensures; lefts = e .build-bounds .ensures .0; rights = e .build-bounds .ensures .1 }
 
 pub build-stores-spec : {M : Type 1} → statement M
 build-stores-spec =
@@ -79,16 +48,8 @@ build-stores-spec =
     (tie.spec
     build-bounds-requires
     build-requires
-    (λ c κs. search needs)
-    (λ c κs. search needs)
-    (λ c κs. search needs)
     (λ c. search needs)
     (λ c. search needs)
     (λ c. search needs)
     (λ c. search needs)
-    returns
-    (λ c. search needs)
-    (λ c. search needs)
-    (λ c. search needs)
-    (λ c. search needs)
-    returns-2)
+    returns)

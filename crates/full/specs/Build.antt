@@ -1,0 +1,49 @@
+-- Request Seven, with document 01's "Refusal numbers and their order": one build of both indexes, what it says and what
+-- it leaves.
+use mathlib.Core.Path.{_≡_}
+use mathlib.Core.List.{List}
+use Prim.Native.Nat.{ℕ}
+use lib.ListN.{length}
+use Rattle.refusals.specs.Numbers.{BuildSaid, taken, refused}
+use Rattle.cells.specs.Memory.{cleared}
+use Rattle.tables.specs.Lengths.{callWork}
+use Rattle.stores.specs.Sizes.{fullSizes}
+use Rattle.stores.specs.Stores.{Stores, Seeds, sizesOf, clearedStores}
+use Rattle.stores.specs.Judged.{judged}
+use Rattle.items.specs.Items.{prefixItems, handleItems}
+use Rattle.jams.specs.Jam.{Jammed, Jamless}
+use Rattle.call.specs.Build.{CallFilled}
+use Rattle.neighbour.specs.Build.{NeighbourFilled}
+
+-- the first of refusals 1 to 4 that applies, over all stores together; `taken` if none does
+abbrev pub fullJudged : List ℕ → ℕ → Stores → BuildSaid
+fullJudged keys b S = judged keys b (sizesOf S) (fullSizes (length keys) b)
+
+-- the first map of 1, 2, 3 that has a jam
+pub data FirstJam (keys : List ℕ) (b : ℕ) (s : Seeds) : (map : ℕ) → Type 0 where
+  in₁ : Jammed (s .one) keys → FirstJam keys b s 1
+  in₂ : Jamless (s .one) keys → Jammed (s .two) (prefixItems b keys) → FirstJam keys b s 2
+  in₃ : Jamless (s .one) keys → Jamless (s .two) (prefixItems b keys) → Jammed (s .three) (handleItems keys)
+      → FirstJam keys b s 3
+
+-- none of them has one
+pub record NoJams (keys : List ℕ) (b : ℕ) (s : Seeds) : Type 0 where
+  pub one : Jamless (s .one) keys
+  pub two : Jamless (s .two) (prefixItems b keys)
+  pub three : Jamless (s .three) (handleItems keys)
+
+-- what an accepted build leaves: both indexes, and the work 0 over its named length
+pub record FullFilled (keys : List ℕ) (b : ℕ) (s : Seeds) (S S′ : Stores) : Type 0 where
+  pub call : CallFilled keys b (s .one) (s .two) (S .cells) (S′ .cells)
+  pub neighbour : NeighbourFilled keys (s .three) S S′
+  pub work : S′ .work ≡ cleared (callWork (length keys)) (S .work)
+
+-- the full build: a refusal of 1 to 4 changes nothing; refusal 5 names the first jammed map and leaves all stores 0 over
+-- their named lengths; otherwise both indexes are there
+pub data FullBuilt (keys : List ℕ) (b : ℕ) (s : Seeds) (S : Stores) (said : BuildSaid) (S′ : Stores) : Type 0 where
+  refusal : (number names : ℕ) → fullJudged keys b S ≡ refused number names → said ≡ refused number names → S′ ≡ S
+      → FullBuilt keys b s S said S′
+  jam : (map : ℕ) → fullJudged keys b S ≡ taken → FirstJam keys b s map → said ≡ refused 5 map
+      → S′ ≡ clearedStores (fullSizes (length keys) b) S → FullBuilt keys b s S said S′
+  accepted : fullJudged keys b S ≡ taken → NoJams keys b s → said ≡ taken → FullFilled keys b s S S′
+      → FullBuilt keys b s S said S′

@@ -1,0 +1,22 @@
+-- What only the contracts of inner functions need: what was judged before, and what is left before a jam is cleared away.
+use mathlib.Core.Path.{_≡_}
+use mathlib.Core.List.{List}
+use Prim.Native.Nat.{ℕ}
+use lib.ListN.{length}
+use Rattle.refusals.specs.Numbers.{BuildSaid, taken, refused}
+use Rattle.stores.specs.Sizes.{fullSizes}
+use Rattle.stores.specs.Stores.{Stores, Seeds}
+use Rattle.stores.specs.Inner.{Beyond}
+use Rattle.tables.specs.Tables.{Table}
+use Rattle.full.specs.Build.{fullJudged, FirstJam, NoJams, FullFilled}
+
+-- refusals 1 to 4 do not apply, so the keys are a table
+pub record Ready (keys : List ℕ) (b : ℕ) (S : Stores) : Type 0 where
+  pub judged : fullJudged keys b S ≡ taken
+  pub table : Table keys
+
+-- all three maps are built; or one has a jam, and past their named lengths the stores are as they were
+pub data MapsBuilt (keys : List ℕ) (b : ℕ) (s : Seeds) (S : Stores) (said : BuildSaid) (S′ : Stores) : Type 0 where
+  jammed : (map : ℕ) → FirstJam keys b s map → said ≡ refused 5 map → Beyond (fullSizes (length keys) b) S S′
+      → MapsBuilt keys b s S said S′
+  filled : NoJams keys b s → said ≡ taken → FullFilled keys b s S S′ → MapsBuilt keys b s S said S′

@@ -1,0 +1,92 @@
+// The refusals, judged over all stores together: 17 keys in buckets of three rows, in stores of the named lengths or of
+// one entry fewer.
+use samples::table;
+use samples::table::Order;
+use samples::table::Sample;
+use samples::text;
+use samplings::builds::tried;
+use stores::Lend;
+use stores::Sizes;
+
+fn shorter(length: usize, by: usize) -> usize {
+    if length < by {
+        return 0;
+    }
+    length - by
+}
+
+// One entry fewer for each store whose bit is set.
+fn shortened(named: Sizes, mask: usize) -> Sizes {
+    Sizes {
+        cells: shorter(named.cells, mask % 2),
+        handles: shorter(named.handles, mask / 2 % 2),
+        left: shorter(named.left, mask / 4 % 2),
+        right: shorter(named.right, mask / 8 % 2),
+        work: shorter(named.work, mask / 16 % 2),
+    }
+}
+
+// The stores that are lent; none where their lengths are refused.
+fn lent(mask: usize) -> Sizes {
+    match stores::named_lengths(17, 3) {
+        Lend::Sizes(named) => shortened(named, mask),
+        Lend::Refused(_) => Sizes {
+            cells: 0,
+            handles: 0,
+            left: 0,
+            right: 0,
+            work: 0,
+        },
+    }
+}
+
+fn print_said(keys: &[u64], b: usize, mask: usize) {
+    let out = tried(keys, b, 0, 0, 0, lent(mask), 1);
+    let said = out.said;
+    text::said(b" said=", said);
+    text::hex(b" stores=", out.digest);
+    text::word(b"\n");
+}
+
+fn print_short(keys: &[u64], mask: usize) {
+    text::number(b"short=", mask as u64);
+    print_said(keys, 3, mask);
+}
+
+fn print_masks(keys: &[u64]) {
+    let mut mask = 0;
+    while mask < 32 {
+        print_short(keys, mask);
+        mask += 1;
+    }
+}
+
+// Each line here, and that of too many keys, has all the faults that are judged later.
+fn print_turned(keys: &[u64]) {
+    text::word(b"turned");
+    print_said(keys, 3, 31);
+    text::word(b"bucket=1");
+    print_said(keys, 1, 31);
+    text::word(b"bucket=257");
+    print_said(keys, 257, 31);
+}
+
+fn print_small() {
+    let mut keys = [0u64; 17];
+    table::fill(Sample::Spread, Order::Rising, &mut keys);
+    print_masks(&keys);
+    table::fill(Sample::Spread, Order::Turned(17), &mut keys);
+    print_turned(&keys);
+}
+
+fn print_over() {
+    let mut keys = [0u64; 32769];
+    table::fill(Sample::Spread, Order::Rising, &mut keys);
+    text::word(b"keys=32769");
+    print_said(&keys, 257, 31);
+}
+
+pub fn print() {
+    print_small();
+    print_over();
+}

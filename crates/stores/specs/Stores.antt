@@ -1,0 +1,51 @@
+-- What a build is lent and an ask reads, as one value. Every theorem on builds is over it; in the code the stores are
+-- slices of their own.
+use mathlib.Core.List.{List, []}
+use Prim.Native.Nat.{ℕ}
+use lib.ListN.{length}
+use Rattle.cells.specs.Memory.{cleared}
+use Rattle.stores.specs.declared.Sizes.{Sizes}
+
+-- stores 1 to 5
+pub record Stores : Type 0 where
+  pub cells : List ℕ
+  pub handles : List ℕ
+  pub left : List ℕ
+  pub right : List ℕ
+  pub work : List ℕ
+
+abbrev pub lent : (cells handles left right work : List ℕ) → Stores
+lent c h l r w = record { cells = c; handles = h; left = l; right = r; work = w }
+
+-- what the asks read: no work
+abbrev pub asked : (cells handles left right : List ℕ) → Stores
+asked c h l r = lent c h l r []
+
+-- the seeds of maps 1, 2 and 3
+pub record Seeds : Type 0 where
+  pub one : ℕ
+  pub two : ℕ
+  pub three : ℕ
+
+abbrev pub seeds : (one two three : ℕ) → Seeds
+seeds s t u = record { one = s; two = t; three = u }
+
+-- one seed for all maps
+abbrev pub same : ℕ → Seeds
+same s = seeds s s s
+
+-- how long they are
+abbrev pub sizesOf : Stores → Sizes
+sizesOf S = record {
+  cells = length (S .cells);
+  handles = length (S .handles);
+  left = length (S .left);
+  right = length (S .right);
+  work = length (S .work);
+}
+
+-- all of them 0 over the lengths w, and beyond as they were
+abbrev pub clearedStores : Sizes → Stores → Stores
+clearedStores w S =
+    lent (cleared (w .cells) (S .cells)) (cleared (w .handles) (S .handles)) (cleared (w .left) (S .left))
+    (cleared (w .right) (S .right)) (cleared (w .work) (S .work))

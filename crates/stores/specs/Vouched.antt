@@ -1,0 +1,22 @@
+-- Why the definitions may be believed: laws to hold against document 01, each proved in proofs/ as exactly this type.
+use mathlib.Core.Path.{_≡_}
+use mathlib.Core.List.{List}
+use mathlib.Core.Logic.{_↔_}
+use Prim.Native.Nat.{ℕ, _≤_}
+use lib.ListN.{length}
+use Rattle.refusals.specs.Numbers.{taken}
+use Rattle.tables.specs.Tables.{firstFall}
+use Rattle.stores.specs.Sizes.{shortStore, Fits}
+use Rattle.stores.specs.Judged.{judged}
+use Rattle.stores.specs.declared.Sizes.{Sizes}
+
+-- no store is named exactly if each has its length
+abbrev pub NoneShortIff : Type 0
+NoneShortIff = (have want : Sizes) → (shortStore have want ≡ 0) ↔ Fits have want
+
+-- nothing is refused exactly if the table and the bucket size are within their limits, the keys rise, and each store
+-- has its length
+abbrev pub NoneRefusedIff : Type 0
+NoneRefusedIff =
+    (keys : List ℕ) (b : ℕ) (have want : Sizes) → (judged keys b have want ≡ taken)
+    ↔ ((length keys ≤ 32768) × (2 ≤ b) × (b ≤ 256) × (firstFall keys ≡ 0) × Fits have want)

@@ -1,0 +1,153 @@
+// The stores that a caller lends (document 01, "Refusal numbers and their order"): their named lengths, the first that
+// is too short, what a build refuses before it builds, and the clearing of all of them.
+//
+// Every function is proved and the crate assumes nothing. `named_lengths`, `short_store` and `judge` take whatever they
+// are handed; the others ask for sizes that their callers have tested.
+ghost use mathlib.Core.Path.{_≡_};
+ghost use Prim.Native.Nat.{_≤_};
+ghost use Rattle.refusals.specs.Numbers.{saidByBuild};
+ghost use Rattle.stores.specs.Sizes.{shortStore, fullSizes, callSizes, neighbourSizes, saidByLend, namedLengths};
+ghost use Rattle.stores.specs.Sizes.{Fits};
+ghost use Rattle.stores.specs.Stores.{lent, sizesOf, clearedStores};
+ghost use Rattle.stores.specs.Judged.{fallOrShort};
+use cells::clear;
+use refusals::Refusal;
+use refusals::Verdict;
+use tables::lengths::call_cells;
+use tables::lengths::call_work;
+use tables::lengths::handle_cells;
+use tables::table::first_fall;
+
+// How long each store is, or has to be, in the order in which refusal 4 names them, from 1 on: 0 where an entry has no
+// such store.
+pub struct Sizes {
+    pub cells: usize,
+    pub handles: usize,
+    pub left: usize,
+    pub right: usize,
+    pub work: usize,
+}
+
+// What a caller has to lend, or the refusal that the build would give whatever is lent.
+pub enum Lend {
+    Sizes(Sizes),
+    Refused(Refusal),
+}
+
+// The number of the first store that is too short, 0 if none is.
+pub fn short_store(have: Sizes, want: Sizes) -> u8
+    ensures { λ r. ⌜ r ≡ shortStore have want ⌝ }
+{
+    if have.cells < want.cells {
+        return 1;
+    }
+    if have.handles < want.handles {
+        return 2;
+    }
+    if have.left < want.left {
+        return 3;
+    }
+    if have.right < want.right {
+        return 4;
+    }
+    if have.work < want.work {
+        return 5;
+    }
+    0
+}
+
+// The named lengths of the full build of n keys in buckets of b rows.
+pub fn full_sizes(n: usize, b: usize) -> Sizes
+    requires { ⌜ (1 ≤ b) × (b ≤ 256) × (n ≤ 32768) ⌝ }
+    ensures { λ r. ⌜ r ≡ fullSizes n b ⌝ }
+{
+    Sizes {
+        cells: call_cells(n, b),
+        handles: handle_cells(n),
+        left: n,
+        right: n,
+        work: call_work(n),
+    }
+}
+
+// What a call ask reads.
+pub fn call_sizes(n: usize, b: usize) -> Sizes
+    requires { ⌜ (1 ≤ b) × (b ≤ 256) × (n ≤ 32768) ⌝ }
+    ensures { λ r. ⌜ r ≡ callSizes n b ⌝ }
+{
+    Sizes {
+        cells: call_cells(n, b),
+        handles: 0,
+        left: 0,
+        right: 0,
+        work: 0,
+    }
+}
+
+// What a neighbour ask reads.
+pub fn neighbour_sizes(n: usize) -> Sizes
+    requires { ⌜ n ≤ 32768 ⌝ }
+    ensures { λ r. ⌜ r ≡ neighbourSizes n ⌝ }
+{
+    Sizes {
+        cells: 0,
+        handles: handle_cells(n),
+        left: n,
+        right: n,
+        work: 0,
+    }
+}
+
+// The named length of every store for n keys in buckets of b rows: refusal 1 for more than 32,768 keys, then 2 for a
+// b outside 2 to 256.
+pub fn named_lengths(n: usize, b: usize) -> Lend
+    ensures { λ r. ⌜ saidByLend r ≡ namedLengths n b ⌝ }
+{
+    if n > 32768 {
+        return Lend::Refused(Refusal::TooManyKeys);
+    }
+    if b < 2 {
+        return Lend::Refused(Refusal::BucketSize);
+    }
+    if b <= 256 {
+        return Lend::Sizes(full_sizes(n, b));
+    }
+    Lend::Refused(Refusal::BucketSize)
+}
+
+// Refusals 3 and 4 of a build, once 1 and 2 do not apply.
+pub fn judge(keys: &[u64], have: Sizes, want: Sizes) -> Verdict
+    ensures { λ r. ⌜ saidByBuild r ≡ fallOrShort (now (keys .entry)) have want ⌝ }
+{
+    let row = first_fall(keys);
+    let short = short_store(have, want);
+    if 0 < row {
+        return Verdict::Refused(Refusal::Falls(row));
+    }
+    if 0 < short {
+        return Verdict::Refused(Refusal::Short(short));
+    }
+    Verdict::Taken
+}
+
+// All stores become 0 over their named lengths, those too that were not written: what a jam leaves.
+pub fn clear_stores(
+    want: Sizes,
+    cells: &mut [u16],
+    handles: &mut [u16],
+    left: &mut [u16],
+    right: &mut [u16],
+    work: &mut [u16],
+)
+    requires { ⌜ Fits (sizesOf (lent (now cells) (now handles) (now left) (now right) (now work))) want ⌝ }
+    ensures { λ _. ⌜ lent (now (cells .exit)) (now (handles .exit)) (now (left .exit)) (now (right .exit))
+        (now (work .exit))
+        ≡ clearedStores want (lent (now (cells .entry)) (now (handles .entry)) (now (left .entry))
+        (now (right .entry)) (now (work .entry))) ⌝ }
+{
+    clear(cells, want.cells);
+    clear(handles, want.handles);
+    clear(left, want.left);
+    clear(right, want.right);
+    clear(work, want.work);
+}

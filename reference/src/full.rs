@@ -1,0 +1,90 @@
+//! The full build: maps 1, 2 and 3 with `left` and `right`, all in lent memory.
+
+use crate::refusal::{jam, judge_store, Refusal};
+use crate::table::judge_rising;
+use crate::{call, maps, neighbour};
+
+/// The memory lent to the build: stores 1 to 5.
+#[derive(Clone, Debug, Default, PartialEq, Eq)]
+pub struct Stores {
+    pub cells: Vec<u16>,
+    pub handles: Vec<u16>,
+    pub left: Vec<u16>,
+    pub right: Vec<u16>,
+    pub work: Vec<u16>,
+}
+
+/// The named lengths of stores 1 to 5.
+pub fn named(n: usize, bucket: usize) -> [usize; 5] {
+    let work = 2 * maps::cell_count(n) + 2 * n;
+    [call::cells_named(n, bucket), neighbour::handles_named(n), n, n, work]
+}
+
+impl Stores {
+    /// Stores of these lengths; in each, entry i holds `entry(i)`.
+    pub fn filled(lengths: [usize; 5], entry: impl Fn(usize) -> u16) -> Stores {
+        let [cells, handles, left, right, work] =
+            lengths.map(|length| (0..length).map(&entry).collect());
+        Stores { cells, handles, left, right, work }
+    }
+
+    /// Stores of just the named lengths, all 0.
+    pub fn named(n: usize, bucket: usize) -> Stores {
+        Stores::filled(named(n, bucket), |_| 0)
+    }
+
+    /// The stores in the order of their numbers.
+    pub fn all(&self) -> [&Vec<u16>; 5] {
+        [&self.cells, &self.handles, &self.left, &self.right, &self.work]
+    }
+
+    fn all_mut(&mut self) -> [&mut Vec<u16>; 5] {
+        [&mut self.cells, &mut self.handles, &mut self.left, &mut self.right, &mut self.work]
+    }
+
+    /// Asks the call index in these stores.
+    pub fn call(
+        &self,
+        keys: &[u64],
+        bucket: usize,
+        seeds: [u64; 2],
+        x: u64,
+    ) -> Result<Option<usize>, Refusal> {
+        call::ask(keys, bucket, seeds, &self.cells, x)
+    }
+
+    /// Asks the neighbour index in these stores.
+    pub fn neighbour(&self, keys: &[u64], seed: u64, x: u64) -> Result<neighbour::Answer, Refusal> {
+        neighbour::ask(keys, seed, &self.handles, &self.left, &self.right, x)
+    }
+}
+
+/// Builds both indexes, each map under its own seed.
+pub fn build(
+    keys: &[u64],
+    bucket: usize,
+    seeds: [u64; 3],
+    stores: &mut Stores,
+) -> Result<(), Refusal> {
+    call::judge_limits(keys, bucket)?;
+    judge_rising(keys)?;
+    let n = keys.len();
+    let named = named(n, bucket);
+    for (i, store) in stores.all().into_iter().enumerate() {
+        judge_store(i + 1, store, named[i])?;
+    }
+
+    // A jam leaves all stores 0, and work is 0 after acceptance too; nothing here needs work.
+    for (store, length) in stores.all_mut().into_iter().zip(named) {
+        store[..length].fill(0);
+    }
+    let first = maps::fill(&call::key_values(keys, bucket), seeds[0]).map_err(|_| jam(1))?;
+    let second = maps::fill(&call::bucket_values(keys, bucket), seeds[1]).map_err(|_| jam(2))?;
+    let wanted = neighbour::wanted(keys);
+    let third = maps::fill(&wanted.handles, seeds[2]).map_err(|_| jam(3))?;
+    stores.cells[..named[0]].copy_from_slice(&[first, second].concat());
+    stores.handles[..named[1]].copy_from_slice(&third);
+    stores.left[..n].copy_from_slice(&wanted.left);
+    stores.right[..n].copy_from_slice(&wanted.right);
+    Ok(())
+}
