@@ -1,5 +1,6 @@
 -- `neighbour::build::build_stores` meets its contract: the bounds are written, and map 3 is built over them. Assumes
 -- nothing.
+use native.Mathlib.Omega.{arith}
 use borrow.Author.Needs.{needs}
 use Rattle.tables.proofs.Delimiting.{delimiters-table}
 use Rattle.items.specs.Items.{itemsOf, valuesOf}
@@ -14,8 +15,8 @@ build-bounds-requires c κs =
     record {
       bucketed = s .pre .bucketed;
       table = delimiters-table (s .args .b) (s .args .keys .now) (s .pre .bucketed .some) (s .pre .table);
-      left-room = s .pre .leftLong;
-      right-room = s .pre .rightLong;
+      left-room = omega (arith, s .pre .leftLong, s .pre .rightLong);
+      right-room = omega (arith, s .pre .leftLong, s .pre .rightLong);
     }
 
 build-requires : tie.Need-build-requires
