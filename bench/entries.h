@@ -1,6 +1,6 @@
 // The entries that are compared, as C sees them: the crate `bench` exports the proved ones, twin.c defines the unverified ones.
 // A slice is a pointer and a length. Every answer is one number: a row, or before | probes << 32 | stands << 40; absent is all ones;
-// a build that is taken answers 0; a refusal is 2^63 | number << 32 | what it names.
+// a build that is taken answers 0; a refusal is 2^63 | number << 32 | what it names, and a jam has its size << 40 beside.
 #ifndef ENTRIES_H
 #define ENTRIES_H
 
@@ -12,6 +12,7 @@ typedef __UINT16_TYPE__ u16;
 
 #define ABSENT (~(u64)0)
 #define REFUSED(number, named) ((u64)1 << 63 | (u64)(number) << 32 | (u64)(named))
+#define JAMMED(map, size) (REFUSED(5, map) | (u64)(size) << 40)
 
 u64 index_full_build(const u64 *keys, size_t n, size_t b, u64 seed1, u64 seed2, u64 seed3, u16 *cells, size_t cells_n, u16 *handles,
                      size_t handles_n, u16 *left, size_t left_n, u16 *right, size_t right_n, u16 *work, size_t work_n);

@@ -286,19 +286,21 @@ u64 index_full_build(const u64 *keys, size_t n, size_t b, u64 seed1, u64 seed2, 
         return REFUSED(4, 4);
     if (work_n < 2 * c + 2 * n)
         return REFUSED(4, 5);
-    u64 jammed = build_keys(keys, n, b, seed1, cells, work) > 0 ? 1 : build_prefixes(keys, n, b, k, seed2, cells + c, work) > 0 ? 2 : 0;
-    if (!jammed) {
+    size_t map = 1, size = build_keys(keys, n, b, seed1, cells, work);
+    if (!size)
+        map = 2, size = build_prefixes(keys, n, b, k, seed2, cells + c, work);
+    if (!size) {
         build_bounds(keys, n, left, right);
-        if (build_handles(keys, n, left, right, t, seed3, handles, work) == 0)
+        map = 3, size = build_handles(keys, n, left, right, t, seed3, handles, work);
+        if (!size)
             return 0;
-        jammed = 3;
     }
     // The work is 0 already: each map leaves it so, and map 1 takes all of its named length.
     __builtin_memset(cells, 0, cells_all * sizeof *cells);
     __builtin_memset(handles, 0, handles_all * sizeof *handles);
     __builtin_memset(left, 0, n * sizeof *left);
     __builtin_memset(right, 0, n * sizeof *right);
-    return REFUSED(5, jammed);
+    return JAMMED(map, size);
 }
 
 u64 index_call_ask(const u64 *keys, size_t n, size_t b, u64 seed1, u64 seed2, const u16 *cells, size_t cells_n, u64 x) {

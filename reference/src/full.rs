@@ -1,6 +1,6 @@
 //! The full build: maps 1, 2 and 3 with `left` and `right`, all in lent memory.
 
-use crate::refusal::{jam, judge_store, Refusal};
+use crate::refusal::{jam, judge_store, BuildRefusal, Refusal};
 use crate::table::judge_rising;
 use crate::{call, maps, neighbour};
 
@@ -59,13 +59,27 @@ impl Stores {
     }
 }
 
+/// The items and values of maps 1, 2 and 3.
+pub fn three_maps(keys: &[u64], bucket: usize) -> [Vec<(u64, u16)>; 3] {
+    [
+        call::key_values(keys, bucket),
+        call::bucket_values(keys, bucket),
+        neighbour::wanted(keys).handles,
+    ]
+}
+
+/// The size of the largest jam that a build tells of: 0 where it names no jammed map.
+pub fn jammed<T>(said: &Result<T, BuildRefusal>) -> usize {
+    said.as_ref().err().map_or(0, |refused| refused.jammed)
+}
+
 /// Builds both indexes, each map under its own seed.
 pub fn build(
     keys: &[u64],
     bucket: usize,
     seeds: [u64; 3],
     stores: &mut Stores,
-) -> Result<(), Refusal> {
+) -> Result<(), BuildRefusal> {
     call::judge_limits(keys, bucket)?;
     judge_rising(keys)?;
     let n = keys.len();
@@ -78,10 +92,14 @@ pub fn build(
     for (store, length) in stores.all_mut().into_iter().zip(named) {
         store[..length].fill(0);
     }
-    let first = maps::fill(&call::key_values(keys, bucket), seeds[0]).map_err(|_| jam(1))?;
-    let second = maps::fill(&call::bucket_values(keys, bucket), seeds[1]).map_err(|_| jam(2))?;
+    let fill = |map: usize, wanted: &[(u64, u16)]| {
+        let refused = |jammed| BuildRefusal { refusal: jam(map), jammed };
+        maps::fill(wanted, seeds[map - 1]).map_err(refused)
+    };
+    let first = fill(1, &call::key_values(keys, bucket))?;
+    let second = fill(2, &call::bucket_values(keys, bucket))?;
     let wanted = neighbour::wanted(keys);
-    let third = maps::fill(&wanted.handles, seeds[2]).map_err(|_| jam(3))?;
+    let third = fill(3, &wanted.handles)?;
     stores.cells[..named[0]].copy_from_slice(&[first, second].concat());
     stores.handles[..named[1]].copy_from_slice(&third);
     stores.left[..n].copy_from_slice(&wanted.left);

@@ -4,6 +4,7 @@
 mod bits;
 mod call;
 mod cases;
+mod chance;
 mod full;
 mod gen;
 mod keys;
@@ -21,8 +22,9 @@ mod vectors;
 use std::io::{Read, Write};
 use std::process::ExitCode;
 
-const USAGE: &str = "usage: reference VECTORS | rowcheck | selfcheck | cases DIR
-VECTORS is a name of docs/VECTORS.md; rowcheck reads standard input";
+const USAGE: &str = "usage: reference VECTORS | rowcheck | selfcheck | cases DIR | chance
+VECTORS is a name of docs/VECTORS.md; rowcheck reads standard input;
+chance tells how often seeds jam by chance, and how badly";
 
 fn print(text: &str) {
     std::io::stdout().write_all(text.as_bytes()).expect("standard output can be written");
@@ -43,6 +45,7 @@ fn main() -> ExitCode {
             print(&rowcheck::run(&input));
         }
         ["selfcheck"] => selfcheck::run(),
+        ["chance"] => print(&chance::text()),
         ["cases", directory] => cases::write(directory.as_ref()).expect("the cases can be written"),
         [name] => match vectors::text(name) {
             Some(text) => print(&text),

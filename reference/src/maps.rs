@@ -54,19 +54,40 @@ pub fn peel(triples: &[[usize; 3]], cells: usize) -> Peeling {
     }
 }
 
-/// Whether some nonempty set of the items touches no cell just once, by going through all the sets.
-pub fn jams_by_subsets(triples: &[[usize; 3]], cells: usize) -> bool {
-    (1u32..1 << triples.len()).any(|set| {
-        let mut touches = vec![0; cells];
-        for (item, triple) in triples.iter().enumerate() {
-            if set >> item & 1 == 1 {
-                for &cell in triple {
-                    touches[cell] += 1;
-                }
-            }
-        }
-        touches.iter().all(|&count| count != 1)
-    })
+/// Whether a set of the items is a jam, as the scope document says: it is not empty, and every cell
+/// touched is touched by at least two of the set.
+pub fn is_jam(set: &[usize], triples: &[[usize; 3]]) -> bool {
+    let touching = |cell: &usize| set.iter().filter(|&&item| triples[item].contains(cell)).count();
+    let mut touched = set.iter().flat_map(|&item| &triples[item]);
+    !set.is_empty() && touched.all(|cell| touching(cell) >= 2)
+}
+
+/// All jams, by going through all the sets of the items.
+pub fn all_jams(triples: &[[usize; 3]]) -> Vec<Vec<usize>> {
+    let members = |set: u32| (0..triples.len()).filter(|item| set >> item & 1 == 1).collect();
+    (0..1 << triples.len()).map(members).filter(|set: &Vec<usize>| is_jam(set, triples)).collect()
+}
+
+/// The jam with the most items of all the sets, and no items where there is no jam.
+pub fn largest_by_subsets(triples: &[[usize; 3]]) -> Vec<usize> {
+    all_jams(triples).into_iter().max_by_key(Vec::len).unwrap_or_default()
+}
+
+/// How many items have so few sets that all of them can be gone through.
+const FEW: usize = 10;
+
+/// The largest jam, and no items where there is none.
+pub fn largest_jam(triples: &[[usize; 3]], cells: usize) -> Vec<usize> {
+    if triples.len() <= FEW {
+        largest_by_subsets(triples)
+    } else {
+        peel(triples, cells).jam
+    }
+}
+
+/// The items of a map from items to values.
+pub fn items_of(wanted: &[(u64, u16)]) -> Vec<u64> {
+    wanted.iter().map(|&(item, _)| item).collect()
 }
 
 /// The triples of a map's items under a seed.
@@ -74,17 +95,17 @@ pub fn triples(items: &[u64], seed: u64) -> Vec<[usize; 3]> {
     items.iter().map(|&item| touched(item, seed, items.len())).collect()
 }
 
-/// The cells of a map from items to values, or the largest jam.
-pub fn fill(wanted: &[(u64, u16)], seed: u64) -> Result<Vec<u16>, Vec<usize>> {
-    let items: Vec<u64> = wanted.iter().map(|&(item, _)| item).collect();
+/// The cells of a map from items to values, or the size of the largest jam.
+pub fn fill(wanted: &[(u64, u16)], seed: u64) -> Result<Vec<u16>, usize> {
+    let items = items_of(wanted);
     let triples = triples(&items, seed);
-    let peeling = peel(&triples, cell_count(items.len()));
-    if !peeling.jam.is_empty() {
-        return Err(peeling.jam);
+    let mut cells = vec![0; cell_count(items.len())];
+    let jam = largest_jam(&triples, cells.len());
+    if !jam.is_empty() {
+        return Err(jam.len());
     }
     // No item removed later touches this one's free cell, so it is still 0 and free to be set.
-    let mut cells = vec![0; cell_count(items.len())];
-    for &(item, free) in peeling.removed.iter().rev() {
+    for &(item, free) in peel(&triples, cells.len()).removed.iter().rev() {
         let [a, b, c] = triples[item];
         cells[free] = wanted[item].1 ^ cells[a] ^ cells[b] ^ cells[c];
     }

@@ -24,6 +24,26 @@ pub fn jam(map: usize) -> Refusal {
     Refusal { number: 5, named: map }
 }
 
+/// A refusal as a build gives it: with a jam goes the size of the largest one in the named map.
+#[derive(Clone, Copy, Debug, PartialEq, Eq)]
+pub struct BuildRefusal {
+    pub refusal: Refusal,
+    /// 0 with every refusal but 5.
+    pub jammed: usize,
+}
+
+impl BuildRefusal {
+    pub fn is_jam(&self) -> bool {
+        self.refusal.number == 5
+    }
+}
+
+impl From<Refusal> for BuildRefusal {
+    fn from(refusal: Refusal) -> BuildRefusal {
+        BuildRefusal { refusal, jammed: 0 }
+    }
+}
+
 /// Refuses a store of fewer entries than its named length.
 pub fn judge_store(store: usize, entries: &[u16], named_length: usize) -> Result<(), Refusal> {
     if entries.len() < named_length {

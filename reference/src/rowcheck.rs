@@ -1,7 +1,7 @@
 //! The program `rowcheck`: text in, text out.
 
 use crate::full::{self, Stores};
-use crate::refusal::{Refusal, BAD_TEXT};
+use crate::refusal::{BuildRefusal, Refusal, BAD_TEXT};
 use std::fmt::Write;
 
 const SEEDS: u64 = 256;
@@ -79,7 +79,7 @@ pub struct Built {
 }
 
 /// Both indexes under one seed for all maps.
-pub fn build_with(keys: &[u64], bucket: usize, seed: u64) -> Result<Built, Refusal> {
+pub fn build_with(keys: &[u64], bucket: usize, seed: u64) -> Result<Built, BuildRefusal> {
     // Without buckets there are no named lengths, and the build refuses whatever it is lent.
     let mut stores =
         if bucket == 0 { Stores::default() } else { Stores::named(keys.len(), bucket) };
@@ -87,12 +87,12 @@ pub fn build_with(keys: &[u64], bucket: usize, seed: u64) -> Result<Built, Refus
     Ok(Built { seed, stores })
 }
 
-/// Both indexes under the first seed that the build takes.
-pub fn build(keys: &[u64], bucket: usize) -> Result<Built, Refusal> {
+/// Both indexes under the first seed that the build takes, or what it says of the last seed.
+pub fn build(keys: &[u64], bucket: usize) -> Result<Built, BuildRefusal> {
     let mut last = build_with(keys, bucket, 0);
     for seed in 1..SEEDS {
         // Only a jam depends on the seed.
-        if !matches!(last, Err(Refusal { number: 5, .. })) {
+        if !last.as_ref().is_err_and(BuildRefusal::is_jam) {
             break;
         }
         last = build_with(keys, bucket, seed);
@@ -100,7 +100,7 @@ pub fn build(keys: &[u64], bucket: usize) -> Result<Built, Refusal> {
     last
 }
 
-fn answers(input: &Input) -> Result<String, Refusal> {
+fn answers(input: &Input) -> Result<String, BuildRefusal> {
     let (keys, bucket) = (&input.keys, input.bucket);
     let Built { seed, stores } = build(keys, bucket)?;
     let mut text = format!("keys={}\n", keys.len());
@@ -115,8 +115,10 @@ fn answers(input: &Input) -> Result<String, Refusal> {
 }
 
 pub fn run(text: &[u8]) -> String {
-    match parse(text).and_then(|input| answers(&input)) {
+    let said = parse(text).map_err(BuildRefusal::from).and_then(|input| answers(&input));
+    match said {
         Ok(text) => text,
-        Err(refusal) => format!("refused={}\n", refusal.number),
+        Err(refused) if refused.is_jam() => format!("refused=5\njammed={}\n", refused.jammed),
+        Err(refused) => format!("refused={}\n", refused.refusal.number),
     }
 }

@@ -5,29 +5,33 @@ use crate::bits::{agree, prefix_item, shared_bits, two_fattest};
 use crate::full::{self, Stores};
 use crate::gen::Gen;
 use crate::keys::{pack, unpack, Fields};
+use crate::maps::items_of;
 use crate::mix::{item_hash, mix};
-use crate::refusal::{jam, Refusal};
+use crate::refusal::{jam, BuildRefusal, Refusal};
 use crate::rowcheck::{self, Built};
-use crate::{call, maps, neighbour, plant, samples, table, vectors};
+use crate::{call, cases, maps, neighbour, plant, samples, table, vectors};
+use std::collections::BTreeSet;
 
 /// A group of checks, which gives their number.
 type Group = (&'static str, fn() -> usize);
 
 pub fn run() {
-    let groups: [Group; 13] = [
+    let groups: [Group; 15] = [
         ("constants", constants),
         ("bits", bits),
         ("key fields", key_fields),
-        ("jam by peeling and by all sets", jams),
+        ("largest jam by removing and by all sets", jams),
         ("eleven-key table", eleven_key_table),
         ("answers after accepted builds", answers),
         ("refusals of the build", build_refusals),
         ("refusals of the asks", ask_refusals),
         ("spoiled bounds", spoiled_bounds),
         ("short stores", short_stores),
+        ("sizes of jams", jam_sizes),
         ("what a build leaves", lent_memory),
         ("planted items", planted),
         ("rowcheck", rowcheck_example),
+        ("rowcheck where all seeds jam", rowcheck_jams),
     ];
     for (name, group) in groups {
         println!("{name}: {} checks", group());
@@ -125,39 +129,51 @@ fn key_fields() -> usize {
     1 + 2 * seconds as usize + 2 * count
 }
 
-/// Compares both ways of finding a jam, and looks whether what peeling leaves is a jam.
-fn same_jam(triples: &[[usize; 3]], cells: usize) -> bool {
-    let peeling = maps::peel(triples, cells);
-    let jams = !peeling.jam.is_empty();
-    assert_eq!(jams, maps::jams_by_subsets(triples, cells));
-    for &item in &peeling.jam {
-        for &cell in &triples[item] {
-            assert!(
-                peeling.jam.iter().filter(|&&other| triples[other].contains(&cell)).count() > 1
-            );
+/// The largest jam a third way: in each round all the items go that alone touch a cell.
+fn jam_by_rounds(triples: &[[usize; 3]]) -> Vec<usize> {
+    let mut left: Vec<usize> = (0..triples.len()).collect();
+    loop {
+        let touching =
+            |cell: &usize| left.iter().filter(|&&item| triples[item].contains(cell)).count();
+        let stays = |item: &usize| triples[*item].iter().all(|cell| touching(cell) > 1);
+        let staying: Vec<usize> = left.iter().copied().filter(stays).collect();
+        if staying.len() == left.len() {
+            return left;
+        }
+        left = staying;
+    }
+}
+
+/// Compares all ways of finding the largest jam, holds it to every jam, and gives its size.
+fn same_jam(triples: &[[usize; 3]], cells: usize) -> usize {
+    let largest = maps::largest_by_subsets(triples);
+    assert_eq!(maps::peel(triples, cells).jam, largest);
+    assert_eq!(maps::largest_jam(triples, cells), largest);
+    assert_eq!(jam_by_rounds(triples), largest);
+
+    let jams = maps::all_jams(triples);
+    assert_eq!(jams.is_empty(), largest.is_empty());
+    for jam in &jams {
+        assert!(jam.iter().all(|item| largest.contains(item)));
+    }
+    // Few items have few enough jams to put every two of them together.
+    if triples.len() <= 6 {
+        for one in &jams {
+            for other in &jams {
+                let within = |item: &usize| one.contains(item) || other.contains(item);
+                let together: Vec<usize> = (0..triples.len()).filter(within).collect();
+                assert!(maps::is_jam(&together, triples));
+            }
         }
     }
-    jams
-}
-
-/// The items and values of maps 1, 2 and 3.
-fn three_maps(keys: &[u64], bucket: usize) -> [Vec<(u64, u16)>; 3] {
-    [
-        call::key_values(keys, bucket),
-        call::bucket_values(keys, bucket),
-        neighbour::wanted(keys).handles,
-    ]
-}
-
-fn items_of(wanted: &[(u64, u16)]) -> Vec<u64> {
-    wanted.iter().map(|&(item, _)| item).collect()
+    largest.len()
 }
 
 fn jams() -> usize {
     let mut gen = Gen::new(3);
-    let mut seen = [0, 0];
+    let mut seen = [0; 13];
     let mut check = |triples: &[[usize; 3]], cells: usize| {
-        seen[usize::from(same_jam(triples, cells))] += 1;
+        seen[same_jam(triples, cells)] += 1;
     };
     for round in 0..6000 {
         let t = round % 13;
@@ -175,7 +191,7 @@ fn jams() -> usize {
     for name in ["sequential", "spread", "clustered", "bits"] {
         for n in 0..=12 {
             let keys = samples::table(name, n);
-            let three_maps = three_maps(&keys, 3).map(|wanted| items_of(&wanted));
+            let three_maps = full::three_maps(&keys, 3).map(|wanted| items_of(&wanted));
             for seed in 0..32 {
                 for items in &three_maps {
                     check(&maps::triples(items, seed), maps::cell_count(items.len()));
@@ -183,8 +199,9 @@ fn jams() -> usize {
             }
         }
     }
-    assert!(seen[0] > 1000 && seen[1] > 1000);
-    seen[0] + seen[1]
+    // One item never jams, and every other size is met.
+    assert!(seen[0] > 1000 && seen[1] == 0 && seen[2..].iter().all(|&count| count > 100));
+    seen.iter().sum()
 }
 
 fn eleven_key_table() -> usize {
@@ -290,7 +307,7 @@ fn pattern(i: usize) -> u16 {
     1 + (i % 65_535) as u16
 }
 
-/// Looks whether the build gives this refusal and changes nothing.
+/// Looks whether the build gives this refusal, tells of no jam and changes nothing.
 fn check_refused(
     keys: &[u64],
     bucket: usize,
@@ -300,7 +317,8 @@ fn check_refused(
 ) {
     let mut stores = Stores::filled(lengths, pattern);
     let before = stores.clone();
-    assert_eq!(full::build(keys, bucket, seeds, &mut stores), Err(refusal));
+    let said = full::build(keys, bucket, seeds, &mut stores);
+    assert_eq!(said, Err(BuildRefusal { refusal, jammed: 0 }));
     assert_eq!(stores, before);
 }
 
@@ -393,7 +411,7 @@ fn short_stores() -> usize {
         let keys = samples::table("spread", n);
         for bucket in [2, 3, 256] {
             let named = full::named(n, bucket);
-            let maps = three_maps(&keys, bucket);
+            let maps = full::three_maps(&keys, bucket);
             let seeds = [0, 1, 2].map(|i| (0..64).find(|&seed| jams_under(&maps[i], seed)));
             let seeds = seeds.map(|seed| seed.unwrap_or(0));
             for set in 1..32 {
@@ -419,6 +437,53 @@ fn jams_under(wanted: &[(u64, u16)], seed: u64) -> bool {
     !peeling.jam.is_empty()
 }
 
+/// What the build is to say of these seeds where nothing else is wrong: the first map with a jam,
+/// and the size of its largest one.
+fn expected(keys: &[u64], bucket: usize, seeds: [u64; 3]) -> Result<(), BuildRefusal> {
+    for (i, wanted) in full::three_maps(keys, bucket).iter().enumerate() {
+        let jammed = jam_by_rounds(&maps::triples(&items_of(wanted), seeds[i])).len();
+        if jammed > 0 {
+            return Err(BuildRefusal { refusal: jam(i + 1), jammed });
+        }
+    }
+    Ok(())
+}
+
+/// The sizes that builds tell of, in all maps and from the smallest jam to that of a whole table.
+fn jam_sizes() -> usize {
+    let mut gen = Gen::new(7);
+    let mut checks = 0;
+    let mut seen = [(); 4].map(|_| BTreeSet::new());
+    for round in 0..6000 {
+        let n = round % 60;
+        let keys = gen.rising(n, Gen::next);
+        let bucket = [2, 3, 16][round / 2000];
+        let seeds = [gen.next(), gen.next(), gen.next()];
+        let said = full::build(&keys, bucket, seeds, &mut Stores::named(n, bucket));
+        assert_eq!(said, expected(&keys, bucket, seeds));
+        let map = said.err().map_or(0, |refused| refused.refusal.named);
+        seen[map].insert(full::jammed(&said));
+        checks += 1;
+    }
+    assert_eq!(seen[0], BTreeSet::from([0]));
+    assert!(seen[1..].iter().all(|sizes| sizes.len() > 10 && sizes.first() == Some(&2)));
+
+    // All the keys of a table, in jams of two, which only together are the largest, and in one jam.
+    for n in [2, 4, 10, 12, 300] {
+        let (seed, centre) = (gen.next(), gen.next());
+        let twos: Vec<u64> = (0..n / 2).flat_map(|_| plant::pair(seed, n, &mut gen)).collect();
+        let others = (1..n).map(|_| plant::partner(centre, seed, n, &mut gen));
+        let one: Vec<u64> = others.chain([centre]).collect();
+        for mut keys in [twos, one] {
+            keys.sort();
+            let said = full::build(&keys, 16, [seed; 3], &mut Stores::named(n, 16));
+            assert_eq!(said, Err(BuildRefusal { refusal: jam(1), jammed: n }));
+            checks += 1;
+        }
+    }
+    checks
+}
+
 /// What builds leave in stores that are longer than they must be. Every set of the three maps is
 /// made to jam, each map by a seed of its own that is searched for.
 fn lent_memory() -> usize {
@@ -427,7 +492,7 @@ fn lent_memory() -> usize {
     for round in 0..240 {
         let keys = gen.rising(round % 60, Gen::next);
         let bucket = [2, 3, 7, 256][round / 60];
-        let maps = three_maps(&keys, bucket);
+        let maps = full::three_maps(&keys, bucket);
         for (set, seen) in seen.iter_mut().enumerate() {
             let from = gen.next() >> 1;
             let seeds = [0, 1, 2].map(|i| {
@@ -457,7 +522,9 @@ fn check_left(keys: &[u64], bucket: usize, seeds: [u64; 3], refusal: Option<Refu
     let named = full::named(n, bucket);
     let mut stores = Stores::filled(named.map(|length| length + 5), pattern);
     let before = stores.clone();
-    assert_eq!(full::build(keys, bucket, seeds, &mut stores).err(), refusal);
+    let said = full::build(keys, bucket, seeds, &mut stores);
+    assert_eq!(said, expected(keys, bucket, seeds));
+    assert_eq!(said.err().map(|refused| refused.refusal), refusal);
     for (i, (store, before)) in stores.all().into_iter().zip(before.all()).enumerate() {
         assert_eq!(store[named[i]..], before[named[i]..]);
     }
@@ -469,7 +536,7 @@ fn check_left(keys: &[u64], bucket: usize, seeds: [u64; 3], refusal: Option<Refu
     }
     let (first, second) = stores.cells.split_at(maps::cell_count(n));
     let cells = [first, second, &stores.handles];
-    for ((wanted, seed), cells) in three_maps(keys, bucket).iter().zip(seeds).zip(cells) {
+    for ((wanted, seed), cells) in full::three_maps(keys, bucket).iter().zip(seeds).zip(cells) {
         check_map(wanted, seed, cells);
     }
     let wanted = neighbour::wanted(keys);
@@ -529,6 +596,36 @@ fn rowcheck_example() -> usize {
         assert_eq!(rowcheck::run(&input.as_bytes()[..length]), "refused=8\n");
     }
     1 + input.len()
+}
+
+/// The two lines of a jam under all seeds, and the one line of every refusal that goes before it.
+fn rowcheck_jams() -> usize {
+    let mut gen = Gen::new(8);
+    let mut checks = 0;
+    for n in [257, 300, 500] {
+        // One key has a partner under every seed.
+        let centre = gen.next();
+        let partners: Vec<u64> =
+            (0..256).map(|seed| plant::partner(centre, seed, n, &mut gen)).collect();
+        let others: Vec<u64> = (257..n).map(|_| gen.next()).collect();
+        let mut keys = [&[centre], &partners[..], &others].concat();
+        keys.sort();
+        let mut printed = |bucket: &str, keys: &[u64], more: &str| {
+            checks += 1;
+            rowcheck::run((cases::input(bucket, keys, &[1]) + more).as_bytes())
+        };
+        for bucket in [2, 3, 256] {
+            let jammed = full::jammed(&expected(&keys, bucket, [255; 3]));
+            let lines = format!("refused=5\njammed={jammed}\n");
+            assert_eq!(printed(&bucket.to_string(), &keys, ""), lines);
+        }
+        assert_eq!(printed("1", &keys, ""), "refused=2\n");
+        assert_eq!(printed("257", &keys, ""), "refused=2\n");
+        assert_eq!(printed("16", &keys, " "), "refused=8\n");
+        keys.swap(0, 1);
+        assert_eq!(printed("16", &keys, ""), "refused=3\n");
+    }
+    checks
 }
 
 /// `cargo test` runs what `reference selfcheck` runs.

@@ -3,7 +3,7 @@
 use crate::full::{self, Stores};
 use crate::keys::{pack, unpack, Fields};
 use crate::mix::{item_hash, mix, STEP};
-use crate::refusal::Refusal;
+use crate::refusal::{BuildRefusal, Refusal};
 use crate::rowcheck::{self, Built};
 use crate::samples::table;
 use crate::table::MOST_KEYS;
@@ -111,10 +111,13 @@ fn keyvectors() -> String {
     text
 }
 
-fn said<T>(result: Result<T, Refusal>) -> String {
+fn said(result: Result<(), BuildRefusal>) -> String {
+    let jammed = full::jammed(&result);
     match result {
-        Ok(_) => "taken".to_string(),
-        Err(refusal) => format!("refused={}.{}", refusal.number, refusal.named),
+        Ok(()) => format!("taken.{jammed}"),
+        Err(BuildRefusal { refusal: Refusal { number, named }, .. }) => {
+            format!("refused={number}.{named}.{jammed}")
+        }
     }
 }
 

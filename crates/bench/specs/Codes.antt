@@ -11,10 +11,11 @@ use Rattle.neighbour.specs.Ask as near
 abbrev pub refusedCode : ℕ → ℕ → ℕ
 refusedCode number names = bitXor (bitXor 9223372036854775808 (number * 2 ^ 32 % 2 ^ 64)) names
 
--- a build: 0 where it is taken
+-- a build: 0 where it is taken; with a jam the size stands from bit 40 on
 abbrev pub buildCode : build.BuildSaid → ℕ
 buildCode build.taken = 0
 buildCode (build.refused number names) = refusedCode number names
+buildCode (build.jammed map size) = bitXor (refusedCode 5 map) (size * 2 ^ 40 % 2 ^ 64)
 
 -- a code stands for what a build says, of which `Says` holds
 pub record Coded (Says : build.BuildSaid → Type 0) (code : ℕ) : Type 0 where

@@ -15,10 +15,18 @@ use neighbour::NeighbourAnswer;
 use refusals::Refusal;
 use refusals::Verdict;
 
+fn coded(number: u64, named: u64) -> u64
+    ensures { λ c. ⌜ c ≡ refusedCode number named ⌝ }
+{
+    0x8000_0000_0000_0000 ^ (number << 32) ^ named
+}
+
 fn refused(r: Refusal) -> u64
     ensures { λ c. ⌜ c ≡ refusedCode (number r) (names r) ⌝ }
 {
-    0x8000_0000_0000_0000 ^ (r.number() << 32) ^ r.named()
+    let number = r.number();
+    let named = r.named();
+    coded(number, named)
 }
 
 fn verdict(v: Verdict) -> u64
@@ -27,6 +35,7 @@ fn verdict(v: Verdict) -> u64
     match v {
         Verdict::Taken => 0,
         Verdict::Refused(r) => refused(r),
+        Verdict::Jammed { map, size } => coded(5, map as u64) ^ ((size as u64) << 40),
     }
 }
 

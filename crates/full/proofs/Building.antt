@@ -1,12 +1,11 @@
 -- What the three maps leave, built one after the other. Assumes nothing.
-use mathlib.Core.Path.{_≡_, refl, sym, ap, _∙_}
+use mathlib.Core.Path.{_≡_, refl, ap, _∙_}
 use mathlib.Core.List.{List}
 use Prim.Native.Nat.{ℕ, _≤_, _<_}
 use native.Mathlib.Nat.{le-refl}
 use native.Mathlib.Omega.{arith}
 use lib.ListN.{length, drop}
-use Rattle.refusals.specs.Numbers.{BuildSaid, taken, refused}
-use Rattle.refusals.proofs.Naming.{not-taken}
+use Rattle.refusals.specs.Numbers.{taken, jammed}
 use Rattle.cells.specs.Cells.{workCount}
 use Rattle.cells.specs.Memory.{cleared}
 use Rattle.cells.proofs.Sweeping.{drop-cleared, cleared-within}
@@ -18,14 +17,14 @@ use Rattle.stores.specs.declared.Sizes.{Sizes}
 use Rattle.stores.specs.Stores.{Stores, Seeds, lent, seeds, sizesOf, clearedStores}
 use Rattle.stores.proofs.Judging.{Passed, judged-passed}
 use Rattle.stores.proofs.Clearing.{cleared-beyond}
-use Rattle.items.specs.Items.{handleItems, prefixItems}
-use Rattle.maps.proofs.Determined.{jam-of}
 use Rattle.call.specs.Inner.{Buildable, KeysBuilt, PrefixesBuilt}
 use Rattle.call.proofs.Joining.{fewer-work, first-beyond, second-beyond, both-swept, both-filled}
 use Rattle.neighbour.specs.Inner.{Storable, StoresBuilt}
 use Rattle.neighbour.proofs.Storing.{storable-table, handles-beyond, left-beyond, right-beyond, stores-swept}
 use Rattle.full.specs.Build.{in₁, in₂, in₃, FullBuilt, jam, accepted}
-use Rattle.full.specs.Inner.{Ready, MapsBuilt, jammed, filled}
+use Rattle.full.specs.Inner.{Ready, MapsBuilt}
+use Rattle.full.specs.declared.Maps.{Maps}
+use Rattle.full.specs.declared.Maps.the-variants.{Built, Jammed}
 
 -- what was judged has room for all maps
 module _ {keys : List ℕ} {b : ℕ} {S : Stores} (R : Ready keys b S) where
@@ -84,30 +83,36 @@ module _ {keys : List ℕ} {b : ℕ} {S : Stores} (R : Ready keys b S) where
   module _ {seed₁ : ℕ} {cells₁ work₁ : List ℕ} {size₁ : ℕ}
       (B₁ : KeysBuilt keys b seed₁ (S .cells) (S .work) size₁ cells₁ work₁) where
     pub first-jams : (seed₂ seed₃ : ℕ) → 0 < size₁
-        → MapsBuilt keys b (seeds seed₁ seed₂ seed₃) S (refused 5 1)
+        → MapsBuilt keys b (seeds seed₁ seed₂ seed₃) S (Jammed 1 size₁)
         (lent cells₁ (S .handles) (S .left) (S .right) work₁)
-    first-jams seed₂ seed₃ h =
-        jammed 1 (in₁ (jam-of seed₁ keys B₁ h)) refl (record {
-          cells = first-beyond A B₁;
-          handles = refl;
-          left = refl;
-          right = refl;
-          work = work-beyond n (S .work) work₁ (B₁ .swept);
-        })
+    unfolding MapsBuilt
+    first-jams seed₂ seed₃ h = (
+      in₁ (B₁ .refused h .0),
+      record {
+        cells = first-beyond A B₁;
+        handles = refl;
+        left = refl;
+        right = refl;
+        work = work-beyond n (S .work) work₁ (B₁ .swept);
+      },
+    )
 
     module _ {seed₂ : ℕ} {cells₂ work₂ : List ℕ} {size₂ : ℕ} (h₁ : size₁ ≤ 0)
         (B₂ : PrefixesBuilt keys b seed₂ cells₁ work₁ size₂ cells₂ work₂) where
       pub second-jams : (seed₃ : ℕ) → 0 < size₂
-          → MapsBuilt keys b (seeds seed₁ seed₂ seed₃) S (refused 5 2)
+          → MapsBuilt keys b (seeds seed₁ seed₂ seed₃) S (Jammed 2 size₂)
           (lent cells₂ (S .handles) (S .left) (S .right) work₂)
-      second-jams seed₃ h =
-          jammed 2 (in₂ (B₁ .accepted (omega arith) .0) (jam-of seed₂ (prefixItems b keys) (B₂ .part) h)) refl (record {
-            cells = second-beyond A B₁ B₂;
-            handles = refl;
-            left = refl;
-            right = refl;
-            work = work-beyond n (S .work) work₂ (both-swept A B₁ B₂);
-          })
+      unfolding MapsBuilt
+      second-jams seed₃ h = (
+        in₂ (B₁ .accepted (omega arith) .0) (B₂ .part .refused h .0),
+        record {
+          cells = second-beyond A B₁ B₂;
+          handles = refl;
+          left = refl;
+          right = refl;
+          work = work-beyond n (S .work) work₂ (both-swept A B₁ B₂);
+        },
+      )
 
       module _ {seed₃ : ℕ} {handles₃ left₃ right₃ work₃ : List ℕ} {size₃ : ℕ} (h₂ : size₂ ≤ 0)
           (B₃ : StoresBuilt (delimiters 1 keys) seed₃ (S .handles) (S .left) (S .right) work₂ size₃ handles₃ left₃ right₃ work₃) where
@@ -123,47 +128,48 @@ module _ {keys : List ℕ} {b : ℕ} {S : Stores} (R : Ready keys b S) where
             ∙ cleared-within w (callWork n) (S .work) (fewer-work (handleCount n) n (omega arith))
 
         pub third-jams : 0 < size₃
-            → MapsBuilt keys b (seeds seed₁ seed₂ seed₃) S (refused 5 3)
+            → MapsBuilt keys b (seeds seed₁ seed₂ seed₃) S (Jammed 3 size₃)
             (lent cells₂ handles₃ left₃ right₃ work₃)
-        third-jams h =
-            jammed 3
-            (in₃ (B₁ .accepted (omega arith) .0) (B₂ .part .accepted (omega arith) .0) (jam-of seed₃ (handleItems keys) (C₃ .map₃) h))
-            refl
-            (record {
-              cells = second-beyond A B₁ B₂;
-              handles = handles-beyond C₃;
-              left = left-beyond C₃;
-              right = right-beyond C₃;
-              work = work-beyond n (S .work) work₃ swept;
-            })
+        unfolding MapsBuilt
+        third-jams h = (
+          in₃ (B₁ .accepted (omega arith) .0) (B₂ .part .accepted (omega arith) .0) (C₃ .map₃ .refused h .0),
+          record {
+            cells = second-beyond A B₁ B₂;
+            handles = handles-beyond C₃;
+            left = left-beyond C₃;
+            right = right-beyond C₃;
+            work = work-beyond n (S .work) work₃ swept;
+          },
+        )
 
         pub all-built : size₃ ≤ 0
-            → MapsBuilt keys b (seeds seed₁ seed₂ seed₃) S taken
+            → MapsBuilt keys b (seeds seed₁ seed₂ seed₃) S Built
             (lent cells₂ handles₃ left₃ right₃ work₃)
+        unfolding MapsBuilt
         all-built h =
-            let A₃ = C₃ .map₃ .accepted (omega arith) in
-            filled
-            (record {
-              one = B₁ .accepted (omega arith) .0;
-              two = B₂ .part .accepted (omega arith) .0;
-              three = A₃ .0;
-            })
-            refl
-            (record {
-              call = both-filled A B₁ B₂ (omega arith) (omega arith);
-              neighbour = record { handles = A₃ .1; left = C₃ .lefts; right = C₃ .rights };
-              work = swept;
-            })
+            let A₃ = C₃ .map₃ .accepted (omega arith) in (
+              record {
+                one = B₁ .accepted (omega arith) .0;
+                two = B₂ .part .accepted (omega arith) .0;
+                three = A₃ .0;
+              },
+              record {
+                call = both-filled A B₁ B₂ (omega arith) (omega arith);
+                neighbour = record { handles = A₃ .1; left = C₃ .lefts; right = C₃ .rights };
+                work = swept;
+              },
+            )
 
 -- what stands after the maps is accepted, or cleared
-module _ {keys : List ℕ} {b : ℕ} {s : Seeds} {S : Stores} (R : Ready keys b S) where
-  pub all-stands : {said : BuildSaid} {S′ : Stores} → MapsBuilt keys b s S said S′ → said ≡ taken
-      → FullBuilt keys b s S taken S′
-  all-stands (jammed map F e B) t = not-taken 5 map e t
-  all-stands (filled N e F) t = accepted (R .judged) N refl F
+module _ {keys : List ℕ} {b : ℕ} {s : Seeds} {S : Stores} (R : Ready keys b S) {maps : Maps} (S₁ : Stores)
+    (M : MapsBuilt keys b s S maps S₁) where
+  pub all-stands : maps ≡ Built → FullBuilt keys b s S taken S₁
+  unfolding MapsBuilt
+  all-stands e = let both = rw e at M in accepted (R .judged) (both .0) refl (both .1)
 
-  pub all-cleared : {said : BuildSaid} {S₁ S′ : Stores} {k i : ℕ} → MapsBuilt keys b s S said S₁ → said ≡ refused k i
-      → S′ ≡ clearedStores (fullSizes (length keys) b) S₁ → FullBuilt keys b s S (refused k i) S′
-  all-cleared (jammed map F e B) t c =
-      jam map (R .judged) F (sym t ∙ e) (c ∙ cleared-beyond (fullSizes (length keys) b) _ _ B)
-  all-cleared (filled N e F) t c = not-taken _ _ t e
+  pub all-cleared : {map size : ℕ} {S′ : Stores} → maps ≡ Jammed map size
+      → S′ ≡ clearedStores (fullSizes (length keys) b) S₁ → FullBuilt keys b s S (jammed map size) S′
+  unfolding MapsBuilt
+  all-cleared e c =
+      let both = rw e at M in
+      jam _ _ (R .judged) (both .0) refl (c ∙ cleared-beyond (fullSizes (length keys) b) _ _ (both .1))

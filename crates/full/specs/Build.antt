@@ -1,17 +1,17 @@
--- Request Seven, with document 01's "Refusal numbers and their order": one build of both indexes, what it says and what
--- it leaves.
+-- Requests Seven and Five, with document 01's "Refusal numbers and their order": one build of both indexes, what it says
+-- and what it leaves.
 use mathlib.Core.Path.{_≡_}
 use mathlib.Core.List.{List}
 use Prim.Native.Nat.{ℕ}
 use lib.ListN.{length}
-use Rattle.refusals.specs.Numbers.{BuildSaid, taken, refused}
+use Rattle.refusals.specs.Numbers.{BuildSaid, taken, refused, jammed}
 use Rattle.cells.specs.Memory.{cleared}
 use Rattle.tables.specs.Lengths.{callWork}
 use Rattle.stores.specs.Sizes.{fullSizes}
 use Rattle.stores.specs.Stores.{Stores, Seeds, sizesOf, clearedStores}
 use Rattle.stores.specs.Judged.{judged}
 use Rattle.items.specs.Items.{prefixItems, handleItems}
-use Rattle.jams.specs.Jam.{Jammed, Jamless}
+use Rattle.jams.specs.Jam.{Jamless, LargestJam}
 use Rattle.call.specs.Build.{CallFilled}
 use Rattle.neighbour.specs.Build.{NeighbourFilled}
 
@@ -19,12 +19,12 @@ use Rattle.neighbour.specs.Build.{NeighbourFilled}
 abbrev pub fullJudged : List ℕ → ℕ → Stores → BuildSaid
 fullJudged keys b S = judged keys b (sizesOf S) (fullSizes (length keys) b)
 
--- the first map of 1, 2, 3 that has a jam
-pub data FirstJam (keys : List ℕ) (b : ℕ) (s : Seeds) : (map : ℕ) → Type 0 where
-  in₁ : Jammed (s .one) keys → FirstJam keys b s 1
-  in₂ : Jamless (s .one) keys → Jammed (s .two) (prefixItems b keys) → FirstJam keys b s 2
-  in₃ : Jamless (s .one) keys → Jamless (s .two) (prefixItems b keys) → Jammed (s .three) (handleItems keys)
-      → FirstJam keys b s 3
+-- the first map of 1, 2, 3 that has a jam, and the size of its largest jam
+pub data FirstJam (keys : List ℕ) (b : ℕ) (s : Seeds) : (map size : ℕ) → Type 0 where
+  in₁ : {size : ℕ} → LargestJam (s .one) keys size → FirstJam keys b s 1 size
+  in₂ : {size : ℕ} → Jamless (s .one) keys → LargestJam (s .two) (prefixItems b keys) size → FirstJam keys b s 2 size
+  in₃ : {size : ℕ} → Jamless (s .one) keys → Jamless (s .two) (prefixItems b keys)
+      → LargestJam (s .three) (handleItems keys) size → FirstJam keys b s 3 size
 
 -- none of them has one
 pub record NoJams (keys : List ℕ) (b : ℕ) (s : Seeds) : Type 0 where
@@ -38,12 +38,12 @@ pub record FullFilled (keys : List ℕ) (b : ℕ) (s : Seeds) (S S′ : Stores) 
   pub neighbour : NeighbourFilled keys (s .three) S S′
   pub work : S′ .work ≡ cleared (callWork (length keys)) (S .work)
 
--- the full build: a refusal of 1 to 4 changes nothing; refusal 5 names the first jammed map and leaves all stores 0 over
--- their named lengths; otherwise both indexes are there
+-- the full build: a refusal of 1 to 4 changes nothing; refusal 5 names the first jammed map, with the size of its largest
+-- jam, and leaves all stores 0 over their named lengths; otherwise both indexes are there
 pub data FullBuilt (keys : List ℕ) (b : ℕ) (s : Seeds) (S : Stores) (said : BuildSaid) (S′ : Stores) : Type 0 where
   refusal : (number names : ℕ) → fullJudged keys b S ≡ refused number names → said ≡ refused number names → S′ ≡ S
       → FullBuilt keys b s S said S′
-  jam : (map : ℕ) → fullJudged keys b S ≡ taken → FirstJam keys b s map → said ≡ refused 5 map
+  jam : (map size : ℕ) → fullJudged keys b S ≡ taken → FirstJam keys b s map size → said ≡ jammed map size
       → S′ ≡ clearedStores (fullSizes (length keys) b) S → FullBuilt keys b s S said S′
   accepted : fullJudged keys b S ≡ taken → NoJams keys b s → said ≡ taken → FullFilled keys b s S S′
       → FullBuilt keys b s S said S′

@@ -3,20 +3,21 @@ use mathlib.Core.Path.{_≡_}
 use mathlib.Core.List.{List}
 use Prim.Native.Nat.{ℕ}
 use lib.ListN.{length}
-use Rattle.refusals.specs.Numbers.{BuildSaid, taken, refused}
+use Rattle.refusals.specs.Numbers.{taken}
 use Rattle.stores.specs.Sizes.{fullSizes}
 use Rattle.stores.specs.Stores.{Stores, Seeds}
 use Rattle.stores.specs.Inner.{Beyond}
 use Rattle.tables.specs.Tables.{Table}
 use Rattle.full.specs.Build.{fullJudged, FirstJam, NoJams, FullFilled}
+use Rattle.full.specs.declared.Maps.{Maps}
+use Rattle.full.specs.declared.Maps.the-variants.{Built, Jammed}
 
 -- refusals 1 to 4 do not apply, so the keys are a table
 pub record Ready (keys : List ℕ) (b : ℕ) (S : Stores) : Type 0 where
   pub judged : fullJudged keys b S ≡ taken
   pub table : Table keys
 
--- all three maps are built; or one has a jam, and past their named lengths the stores are as they were
-pub data MapsBuilt (keys : List ℕ) (b : ℕ) (s : Seeds) (S : Stores) (said : BuildSaid) (S′ : Stores) : Type 0 where
-  jammed : (map : ℕ) → FirstJam keys b s map → said ≡ refused 5 map → Beyond (fullSizes (length keys) b) S S′
-      → MapsBuilt keys b s S said S′
-  filled : NoJams keys b s → said ≡ taken → FullFilled keys b s S S′ → MapsBuilt keys b s S said S′
+-- all three maps are built; or one is the first that has a jam, and past their named lengths the stores are as they were
+unfoldable pub MapsBuilt : List ℕ → ℕ → Seeds → Stores → Maps → Stores → Type 0
+MapsBuilt keys b s S Built S′ = NoJams keys b s × FullFilled keys b s S S′
+MapsBuilt keys b s S (Jammed map size) S′ = FirstJam keys b s map size × Beyond (fullSizes (length keys) b) S S′

@@ -1,4 +1,4 @@
-// The build of both indexes in one operation (request Seven), so that none is ever had without the other.
+// The build of both indexes in one operation (requests Seven and Five), so that none is ever had without the other.
 //
 // Every function is proved and the crate assumes nothing. The entry `full_build` has no `requires`: whatever table,
 // stores and seeds it is lent, it builds or refuses as specs/Build.antt says.
@@ -9,10 +9,16 @@ ghost use Rattle.full.specs.Inner.{Ready, MapsBuilt};
 use call::build::build_keys;
 use call::build::build_prefixes;
 use neighbour::build::build_stores;
-use refusals::Refusal;
 use refusals::Verdict;
+use stores::Judged;
 use stores::Lend;
 use stores::Sizes;
+
+// All maps are there; or the first that has a jam, and the size of its largest jam.
+enum Maps {
+    Built,
+    Jammed { map: u8, size: usize },
+}
 
 // Maps 1, 2 and 3 with the bounds, up to the first map that has a jam. After a jam the stores hold what was written so
 // far.
@@ -27,23 +33,29 @@ fn build_maps(
     left: &mut [u16],
     right: &mut [u16],
     work: &mut [u16],
-) -> Verdict
+) -> Maps
     requires { ⌜ Ready (now keys) b (lent (now cells) (now handles) (now left) (now right) (now work)) ⌝ }
     ensures { λ r. ⌜ MapsBuilt (now (keys .entry)) b (seeds seed1 seed2 seed3)
         (lent (now (cells .entry)) (now (handles .entry)) (now (left .entry)) (now (right .entry)) (now (work .entry)))
-        (saidByBuild r)
+        r
         (lent (now (cells .exit)) (now (handles .exit)) (now (left .exit)) (now (right .exit)) (now (work .exit))) ⌝ }
 {
-    if 0 < build_keys(keys, b, seed1, cells, work) {
-        return Verdict::Refused(Refusal::Jammed(1));
+    let one = build_keys(keys, b, seed1, cells, work);
+    if 0 < one {
+        return Maps::Jammed { map: 1, size: one };
     }
-    if 0 < build_prefixes(keys, b, seed2, cells, work) {
-        return Verdict::Refused(Refusal::Jammed(2));
+    let two = build_prefixes(keys, b, seed2, cells, work);
+    if 0 < two {
+        return Maps::Jammed { map: 2, size: two };
     }
-    if 0 < build_stores(keys, 1, seed3, handles, left, right, work) {
-        return Verdict::Refused(Refusal::Jammed(3));
+    let three = build_stores(keys, 1, seed3, handles, left, right, work);
+    if 0 < three {
+        return Maps::Jammed {
+            map: 3,
+            size: three,
+        };
     }
-    Verdict::Taken
+    Maps::Built
 }
 
 // Both indexes, once nothing else is refused: after a jam all stores are cleared, whichever map had it.
@@ -77,11 +89,11 @@ fn build_all(
         right,
         work,
     ) {
-        Verdict::Taken => Verdict::Taken,
-        Verdict::Refused(refusal) => {
+        Maps::Built => Verdict::Taken,
+        Maps::Jammed { map, size } => {
             let want = stores::full_sizes(keys.len(), b);
             stores::clear_stores(want, cells, handles, left, right, work);
-            Verdict::Refused(refusal)
+            Verdict::Jammed { map, size }
         }
     }
 }
@@ -115,8 +127,8 @@ pub fn full_build(
                 work: work.len(),
             };
             match stores::judge(keys, have, want) {
-                Verdict::Refused(refusal) => Verdict::Refused(refusal),
-                Verdict::Taken => {
+                Judged::Refused(refusal) => Verdict::Refused(refusal),
+                Judged::Passed => {
                     build_all(
                         keys,
                         b,

@@ -1,11 +1,11 @@
 -- What an accepted build says of its inputs, and leaves. Assumes nothing.
 use mathlib.Core.Path.{_≡_, refl, sym, ap, _∙_}
 use mathlib.Core.List.{List}
-use Prim.Native.Nat.{ℕ, _+_, _≤_, _<_, zero-le}
+use Prim.Native.Nat.{ℕ, _+_, _<_, zero-le}
 use native.Mathlib.Omega.{arith}
 use lib.ListN.{length, getD, drop, length-drop}
 use Rattle.refusals.specs.Numbers.{taken}
-use Rattle.refusals.proofs.Naming.{not-taken}
+use Rattle.refusals.proofs.Naming.{not-taken, jam-not-taken}
 use Rattle.cells.specs.Cells.{cellCount, mapValue}
 use Rattle.tables.specs.Tables.{Table}
 use Rattle.tables.specs.Lengths.{handleCount}
@@ -33,7 +33,7 @@ pub record FullAccepted (keys : List ℕ) (b : ℕ) (s : Seeds) (S S′ : Stores
 pub full-accepted : {keys : List ℕ} {b : ℕ} {s : Seeds} {S S′ : Stores} → FullBuilt keys b s S taken S′
     → FullAccepted keys b s S S′
 full-accepted (refusal k i j e c) = not-taken k i e refl
-full-accepted (jam map j F e c) = not-taken 5 map e refl
+full-accepted (jam map size j F e c) = jam-not-taken map size e refl
 full-accepted (accepted j N e F) = record { passed = judged-passed _ _ _ _ j; jamless = N; filled = F }
 
 -- a filled map 3 gives each of its items the split that it stands for

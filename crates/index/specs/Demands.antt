@@ -2,17 +2,17 @@
 use mathlib.Core.Path.{_≡_}
 use mathlib.Core.Bool.{Bool, true}
 use mathlib.Core.List.{List}
-use mathlib.Core.Logic.{_↔_}
+use mathlib.Core.Logic.{_⊎_, _↔_}
 use Prim.Native.Nat.{ℕ, _-_, _^_, _≤_, _<_}
 use lib.ListN.{length}
-use Rattle.refusals.specs.Numbers.{BuildSaid, taken, refused}
+use Rattle.refusals.specs.Numbers.{BuildSaid, taken, jammed, numberSaid, jamSaid}
 use Rattle.words.specs.Fat.{binaryDigits}
 use Rattle.cells.specs.Cells.{mapValue}
 use Rattle.tables.specs.Tables.{keyAt, smaller, sharedByAll}
 use Rattle.tables.specs.Lengths.{handleCount}
 use Rattle.stores.specs.Stores.{Stores, Seeds}
 use Rattle.items.specs.Items.{prefixItems, handleItems}
-use Rattle.jams.specs.Jam.{Jammed}
+use Rattle.jams.specs.Jam.{Jammed, LargestJam}
 use Rattle.callask.specs.Ask.{row, absent, callSays}
 use Rattle.walks.specs.Walk.{pathWalk, storeWalk}
 use Rattle.neighbour.specs.Ask.{place, neighbourSays}
@@ -23,18 +23,33 @@ use Rattle.index.specs.Answers.{Words}
 abbrev pub NotIn : ℕ → List ℕ → Type 0
 NotIn x keys = (r : ℕ) → r < length keys → keyAt keys r ≡ x → ⊥
 
+-- a build names a map in refusal 5, whatever the size of its jam
+abbrev pub Names : BuildSaid → ℕ → Type 0
+Names said map = (size : ℕ) × (said ≡ jammed map size)
+
 -- Demand 1: where nothing else is refused, the build refuses a seed exactly when some nonempty set of one map's items
 -- touches no cell just once, and names the first map of 1, 2, 3 that has such a set
 abbrev pub BuildRefusesJams : Type 0
 BuildRefusesJams =
     (keys : List ℕ) (b : ℕ) (s : Seeds) (S : Stores) (said : BuildSaid) (S′ : Stores) → FullBuilt keys b s S said S′
     → fullJudged keys b S ≡ taken
-    → ((said ≡ refused 5 1) ↔ Jammed (s .one) keys)
-    × ((said ≡ refused 5 2) ↔ ((Jammed (s .one) keys → ⊥) × Jammed (s .two) (prefixItems b keys)))
-    × ((said ≡ refused 5 3) ↔ ((Jammed (s .one) keys → ⊥) × (Jammed (s .two) (prefixItems b keys) → ⊥)
+    → (Names said 1 ↔ Jammed (s .one) keys)
+    × (Names said 2 ↔ ((Jammed (s .one) keys → ⊥) × Jammed (s .two) (prefixItems b keys)))
+    × (Names said 3 ↔ ((Jammed (s .one) keys → ⊥) × (Jammed (s .two) (prefixItems b keys) → ⊥)
     × Jammed (s .three) (handleItems keys)))
     × ((said ≡ taken) ↔ ((Jammed (s .one) keys → ⊥) × (Jammed (s .two) (prefixItems b keys) → ⊥)
     × (Jammed (s .three) (handleItems keys) → ⊥)))
+
+-- Request Five: whatever the build is handed, the number that it reports is the size of the largest jam of the map that it
+-- names, of 1, 2 and 3, in refusal 5; it is above 0 exactly then, and 0 with no jam
+abbrev pub SizeIsTheLargest : Type 0
+SizeIsTheLargest =
+    (keys : List ℕ) (b : ℕ) (s : Seeds) (S : Stores) (said : BuildSaid) (S′ : Stores) → FullBuilt keys b s S said S′
+    → (Names said 1 → LargestJam (s .one) keys (jamSaid said))
+    × (Names said 2 → LargestJam (s .two) (prefixItems b keys) (jamSaid said))
+    × (Names said 3 → LargestJam (s .three) (handleItems keys) (jamSaid said))
+    × ((numberSaid said ≡ 5) ↔ (Names said 1 ⊎ (Names said 2 ⊎ Names said 3)))
+    × ((0 < jamSaid said) ↔ (numberSaid said ≡ 5))
 
 -- Demand 2: after an accepted build, asked with its own inputs, a planned key gets its sorted row ..
 abbrev pub PlannedGetsItsRow : Type 0

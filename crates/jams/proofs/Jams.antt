@@ -1,8 +1,14 @@
 -- Jams and peeling.
+--     jam-two                 a jam has two items at least
 --     one-item-never-jams     document 01's remark, of no items too
 --     jam-is-never-once       a jam is a nonempty set that touches no cell just once, as the demands say it
---     jammed-not-jamless      a jam and no jam exclude each other
---     largest-one-size        two largest jams are one set, and have one size
+--     jamless-not-jammed      no jam and a jam exclude each other
+--     one-largest             two largest jams are one set
+--     largest-one-size        and have one size
+--     or-cases                one of two tests passes
+--     any-cell, some-cell     a test passes at one of an item's cells
+--     touches, touched        an item touches a cell, and the test says so
+--     alone-at         a cell that one of a set touches: the xor there is its number
 --     closed-jam       a set that is not empty, and of which no cell is touched by exactly one, is a jam
 --     jam-has-none-peeled     who is in a jam was not peeled
 --     all-peeled       all are peeled: there is no jam
@@ -19,59 +25,100 @@ use lib.Dec.{eqb}
 use lib.ListN.{length}
 use Rattle.basics.proofs.Bools.{both, and-both, not-both, true-or-false}
 use Rattle.jams.specs.Jam.{Touches, Jam, NoJam, Largest, sizeOf, touch, Jammed, Jamless, LargestJam}
-use Rattle.jams.specs.Vouched.{NeverOnce, JamIsNeverOnce, OneItemNeverJams}
+use Rattle.jams.specs.Vouched.{NeverOnce, JamIsNeverOnce, OneItemNeverJams, OneLargest}
 use Rattle.jams.specs.Inner.Peel.{touchb, live, Peeling, still}
 use Rattle.jams.specs.Inner.Work.{xorOf}
-use Rattle.jams.proofs.Sets.{size-ext, size-zero, size-some, size-one, size-other, One, last-or-below}
+use Rattle.jams.proofs.Sets.{size-ext, size-le, size-zero, size-some, size-two, size-other}
+use Rattle.jams.proofs.Sets.{One, size-one, last-or-below}
 
-one-never : (e : ℕ → ℕ → ℕ) (t : ℕ) → t ≤ 1 → NoJam e t
-one-never e t l s J =
+-- a jam has two items at least: one, and another that touches one of its cells
+pub jam-two : {e : ℕ → ℕ → ℕ} {t : ℕ} {s : ℕ → Bool} → Jam e t s → 2 ≤ sizeOf s t
+jam-two {e} {t} {s} J =
     let i = J .some .0 in
-    let o : (j : ℕ) × (j < t) × (s j ≡ true) × Touches e j (e 0 i) × (j ≡ i → ⊥) =
-    J .twice i (e 0 i) (J .some .1) (J .some .2) (inl refl) in
-    o .4 (omega (arith, J .some .1))
+    let o = J .twice i (e 0 i) (J .some .1) (J .some .2) (inl refl) in
+    size-two s t i (o .0) (J .some .1) (J .some .2) (o .1) (o .2) (o .4)
 
 pub one-item-never-jams : OneItemNeverJams
-one-item-never-jams seed items l = one-never (touch seed items) (length items) l
+one-item-never-jams seed items l s J = omega (arith, jam-two J, size-le s (length items))
 
-pub jammed-not-jamless : (seed : ℕ) (items : List ℕ) → Jammed seed items → Jamless seed items → ⊥
-jammed-not-jamless seed items K N = N (K .0) (K .1)
+pub jamless-not-jammed : (seed : ℕ) (items : List ℕ) → Jamless seed items → Jammed seed items → ⊥
+jamless-not-jammed seed items N K = N (K .0) (K .1)
 
 same-test : (a b : Bool) → (a ≡ true → b ≡ true) → (b ≡ true → a ≡ true) → a ≡ b
 same-test true b f g = sym (f refl)
 same-test false true f g = g refl
 same-test false false f g = refl
 
-largest-same : (e : ℕ → ℕ → ℕ) (t : ℕ) (s s′ : ℕ → Bool) → Largest e t s → Largest e t s′ → (i : ℕ) → i < t → s i ≡ s′ i
-largest-same e t s s′ L M i l = same-test (s i) (s′ i) (M .all s (L .jam) i l) (L .all s′ (M .jam) i l)
+-- each of two largest jams holds the other
+pub one-largest : OneLargest
+one-largest e t s s′ L M i l = same-test (s i) (s′ i) (M .all s (L .jam) i l) (L .all s′ (M .jam) i l)
 
 pub largest-one-size : (seed : ℕ) (items : List ℕ) {m n : ℕ} → LargestJam seed items m → LargestJam seed items n → m ≡ n
 largest-one-size seed items L M =
     let t = length items in
-    sym (L .2) ∙ size-ext (L .0) (M .0) t (largest-same (touch seed items) t (L .0) (M .0) (L .1) (M .1)) ∙ M .2
+    sym (L .2) ∙ size-ext (L .0) (M .0) t (one-largest (touch seed items) t (L .0) (M .0) (L .1) (M .1)) ∙ M .2
 
-or-cases : (a b : Bool) → a || b ≡ true → (a ≡ true) ⊎ (b ≡ true)
+pub or-cases : (a b : Bool) → a || b ≡ true → (a ≡ true) ⊎ (b ≡ true)
 or-cases true b e = inl refl
 or-cases false b e = inr e
+
+-- the test f passes at one of item i's cells
+abbrev pub anyCell : (ℕ → ℕ → ℕ) → (ℕ → Bool) → ℕ → Bool
+anyCell e f i = f (e 0 i) || (f (e 1 i) || f (e 2 i))
+
+-- it does if it passes at a cell that the item touches
+pub any-cell : (e : ℕ → ℕ → ℕ) (f : ℕ → Bool) (i c : ℕ) → Touches e i c → f c ≡ true → anyCell e f i ≡ true
+any-cell e f i c (inl a) h = rw (a, h)
+any-cell e f i c (inr (inl a)) h = rw (a, h, or-true (f (e 0 i)))
+any-cell e f i c (inr (inr a)) h = rw (a, h, or-true (f (e 1 i)), or-true (f (e 0 i)))
+
+-- and then there is such a cell
+pub some-cell : (e : ℕ → ℕ → ℕ) (f : ℕ → Bool) (i : ℕ) → anyCell e f i ≡ true → (c : ℕ) × Touches e i c × (f c ≡ true)
+some-cell e f i h =
+    ⊎-elim (λ (a : f (e 0 i) ≡ true). (e 0 i, inl refl, a))
+    (λ (b : f (e 1 i) || f (e 2 i) ≡ true).
+    ⊎-elim (λ (a : f (e 1 i) ≡ true). (e 1 i, inr (inl refl), a))
+    (λ (a : f (e 2 i) ≡ true). (e 2 i, inr (inr refl), a))
+    (or-cases (f (e 1 i)) (f (e 2 i)) b))
+    (or-cases (f (e 0 i)) (f (e 1 i) || f (e 2 i)) h)
 
 pub touched : (e : ℕ → ℕ → ℕ) (i c : ℕ) → touchb e i c ≡ true → Touches e i c
 unfolding touchb
 touched e i c h =
-    ⊎-elim (λ (a : eqb (e 0 i) c ≡ true). inl (eqb-true (e 0 i) c a))
-    (λ (b : eqb (e 1 i) c || eqb (e 2 i) c ≡ true).
-    inr (⊎-elim (λ (a : eqb (e 1 i) c ≡ true). inl (eqb-true (e 1 i) c a))
-    (λ (a : eqb (e 2 i) c ≡ true). inr (eqb-true (e 2 i) c a))
-    (or-cases (eqb (e 1 i) c) (eqb (e 2 i) c) b)))
-    (or-cases (eqb (e 0 i) c) (eqb (e 1 i) c || eqb (e 2 i) c) h)
+    let r : (d : ℕ) × Touches e i d × (eqb d c ≡ true) = some-cell e (λ d. eqb d c) i h in
+    rw (eqb-true (r .0) c (r .2)) at (r .1)
 
 pub touches : (e : ℕ → ℕ → ℕ) (i c : ℕ) → Touches e i c → touchb e i c ≡ true
 unfolding touchb
-touches e i c (inl a) = rw (eq-eqb (e 0 i) c a)
-touches e i c (inr (inl a)) = rw (eq-eqb (e 1 i) c a, or-true (eqb (e 0 i) c))
-touches e i c (inr (inr a)) = rw (eq-eqb (e 2 i) c a, or-true (eqb (e 1 i) c), or-true (eqb (e 0 i) c))
+touches e i c w = any-cell e (λ d. eqb d c) i c w (eq-eqb c c refl)
+
+-- those of a set that touch cell c
+abbrev pub touching : (ℕ → ℕ → ℕ) → (ℕ → Bool) → ℕ → ℕ → Bool
+touching e s c i = s i && touchb e i c
+
+-- item i of the set touches cell c, and no other of the set does
+pub record AloneAt (e : ℕ → ℕ → ℕ) (t : ℕ) (s : ℕ → Bool) (c i : ℕ) : Type 0 where
+  pub below : i < t
+  pub inside : s i ≡ true
+  pub here : Touches e i c
+  pub only : (j : ℕ) → j < t → s j ≡ true → Touches e j c → j ≡ i
+
+-- so it is where exactly one of the set touches the cell, and the xor there is its number
+pub alone-at : (e : ℕ → ℕ → ℕ) (t : ℕ) (s : ℕ → Bool) (c : ℕ) → sizeOf (touching e s c) t ≡ 1
+    → AloneAt e t s c (xorOf (touching e s c) t)
+alone-at e t s c z =
+    let i = xorOf (touching e s c) t in
+    let o : One (touching e s c) t i = size-one (touching e s c) t z in
+    let b = both (s i) (touchb e i c) (o .passes) in
+    record {
+      below = o .below;
+      inside = b .0;
+      here = touched e i c (b .1);
+      only = λ j l h w. o .only j l (and-both h (touches e j c w));
+    }
 
 pub closed-jam : (e : ℕ → ℕ → ℕ) (t : ℕ) (s : ℕ → Bool)
-    → ((c : ℕ) → sizeOf (λ i. s i && touchb e i c) t ≡ 1 → ⊥)
+    → ((c : ℕ) → sizeOf (touching e s c) t ≡ 1 → ⊥)
     → (i : ℕ) × (i < t) × (s i ≡ true)
     → Jam e t s
 closed-jam e t s no-one some =
@@ -79,7 +126,7 @@ closed-jam e t s no-one some =
       some = some;
       twice = λ i c l h w.
           let o : (j : ℕ) × (j < t) × (s j && touchb e j c ≡ true) × (j ≡ i → ⊥) =
-          size-other (λ k. s k && touchb e k c) t i (no-one c) l (and-both h (touches e i c w)) in
+          size-other (touching e s c) t i (no-one c) l (and-both h (touches e i c w)) in
           let b = both (s (o .0)) (touchb e (o .0) c) (o .2) in
           (o .0, o .1, b .0, touched e (o .0) c (b .1), o .3);
     }
@@ -93,11 +140,8 @@ never-once-jam : {e : ℕ → ℕ → ℕ} {t : ℕ} {s : ℕ → Bool} → (i :
 never-once-jam {e} {t} {s} some N =
     closed-jam e t s
     (λ c z.
-    let p : ℕ → Bool = λ k. s k && touchb e k c in
-    let o : One p t (xorOf p t) = size-one p t z in
-    let i = xorOf p t in
-    let b = both (s i) (touchb e i c) (o .passes) in
-    N i c (o .below) (b .0) (touched e i c (b .1)) (λ j l h w. o .only j l (and-both h (touches e j c w))))
+    let o = alone-at e t s c z in
+    N (xorOf (touching e s c) t) c (o .below) (o .inside) (o .here) (o .only))
     some
 
 pub jam-is-never-once : JamIsNeverOnce

@@ -23,37 +23,21 @@ use borrow.Author.Tests.{eq-eqb, ne-eqb, eqb-true}
 use lib.Dec.{eqb}
 use lib.ListN.{length, getD, set, length-set}
 use lib.Seq.{getD-set-same, getD-set-other}
-use Rattle.basics.proofs.Bools.{both, and-both, not-both, true-or-false}
+use Rattle.basics.proofs.Bools.{and-both, not-both, true-or-false}
 use Rattle.jams.specs.Jam.{Touches, Largest, sizeOf}
 use Rattle.jams.specs.Inner.Peel.{touchb, live, Peeling, still}
 use Rattle.jams.specs.Inner.Work.{Put, CellsHold, Peeled, Seen, AllSeen, Tryable, CellTried}
 use Rattle.jams.specs.Inner.Work.{moreIf, xorIf, xorOf, mark, turnItem, turnCell}
-use Rattle.jams.proofs.Sets.{size-one, One, Without, size-less, xor-less, size-zero, last-or-below, xor-if-twice}
-use Rattle.jams.proofs.Jams.{touched, touches, live-ext, live-not, live-le, rest-largest}
+use Rattle.jams.proofs.Sets.{Without, size-less, xor-less, size-zero, last-or-below, xor-if-twice}
+use Rattle.jams.proofs.Jams.{touched, touches, AloneAt, alone-at, live-ext, live-not, live-le, rest-largest}
 
 pub at-most : {e : ℕ → ℕ → ℕ} {t cap q n : ℕ} {w : List ℕ} → Peeled e t cap w q n → n ≤ t
 at-most P = omega (arith, P .order .left)
 
--- item i is the one that is left at cell c after q turns
-pub record OneLeft (e : ℕ → ℕ → ℕ) (t : ℕ) (st : ℕ → ℕ) (q c i : ℕ) : Type 0 where
-  pub below : i < t
-  pub left : live st q i ≡ true
-  pub here : Touches e i c
-  pub only : (j : ℕ) → j < t → live st q j ≡ true → Touches e j c → j ≡ i
-
 pub one-left : {e : ℕ → ℕ → ℕ} {t cap q n : ℕ} {w : List ℕ} (c : ℕ) → Peeled e t cap w q n → c < cap → getD w c 0 ≡ 1
-    → OneLeft e t (turnItem cap t w) q c (getD w (cap + c) 0)
+    → AloneAt e t (live (turnItem cap t w) q) c (getD w (cap + c) 0)
 one-left {e} {t} {cap} {q} {n} {w} c P l d =
-    let st = turnItem cap t w in
-    let i = getD w (cap + c) 0 in
-    let o : One (still e st q c) t i =
-    rw (P .holds .xor c l) (size-one (still e st q c) t (sym (P .holds .count c l) ∙ d)) in
-    record {
-      below = o .below;
-      left = both (live st q i) (touchb e i c) (o .passes) .0;
-      here = touched e i c (both (live st q i) (touchb e i c) (o .passes) .1);
-      only = λ j m a b. o .only j m (and-both a (touches e j c b));
-    }
+    rw (P .holds .xor c l) (alone-at e t (live (turnItem cap t w) q) c (sym (P .holds .count c l) ∙ d))
 
 -- an item that is not marked has no turn
 unmarked : {e : ℕ → ℕ → ℕ} {t cap q n : ℕ} {w : List ℕ} (i : ℕ) → Peeled e t cap w q n → i < t → mark cap w i ≡ 0
@@ -170,7 +154,7 @@ module _ {cap t n : ℕ} {w : List ℕ} (c : ℕ) (T : Tryable cap t w n c) (d :
       ∙ getD-set-same w y (c + 1) 0 (omega (arith, T .long, I-below))
 
   module _ {e : ℕ → ℕ → ℕ} {q : ℕ} (P : Peeled e t cap w q n) where
-    O : OneLeft e t Items q c I
+    O : AloneAt e t (live Items q) c I
     O = one-left c P (T .below) d
 
     fresh : live Items n I ≡ true
@@ -357,7 +341,7 @@ seen-stuck : {e : ℕ → ℕ → ℕ} {t cap n : ℕ} {w : List ℕ} → Peeled
     → getD w k 0 ≡ 1 → ⊥
 seen-stuck {cap = cap} {w = w} P S k l d =
     let o = one-left k P l d in
-    S k l d (eqb-true (mark cap w (getD w (cap + k) 0)) 0 (P .marks (getD w (cap + k) 0) (o .below) ∙ o .left))
+    S k l d (eqb-true (mark cap w (getD w (cap + k) 0)) 0 (P .marks (getD w (cap + k) 0) (o .below) ∙ o .inside))
 
 pub stuck-largest : {e : ℕ → ℕ → ℕ} {t cap n : ℕ} {w : List ℕ} → ((i c : ℕ) → Touches e i c → c < cap)
     → Peeled e t cap w n n
@@ -366,7 +350,5 @@ stuck-largest {e} {t} {cap} {n} {w} below P S h =
     rest-largest e t (turnItem cap t w) (turnCell cap t w) n (P .order) h
     (λ c z.
     let st = turnItem cap t w in
-    let i = xorOf (still e st n c) t in
-    let o : One (still e st n c) t i = size-one (still e st n c) t z in
-    let l : c < cap = below i c (touched e i c (both (live st n i) (touchb e i c) (o .passes) .1)) in
+    let l : c < cap = below (xorOf (still e st n c) t) c (alone-at e t (live st n) c z .here) in
     seen-stuck P S c l (P .holds .count c l ∙ z))

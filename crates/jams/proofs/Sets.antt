@@ -2,8 +2,11 @@
 --     size-ext, xor-ext       two tests that agree below t
 --     size-zero, xor-zero     an empty set: the test fails below t, and the xor is 0
 --     size-some               a set that is not empty has a number
+--     size-within             a set within another has no more numbers
 --     size-less, xor-less     one number taken out
+--     size-without            one that is in the set: one less
 --     size-one                a set of one: the xor is its number
+--     size-two                a set with two numbers that differ has two at least
 --     size-other              a set that is not of one has another number beside the one at hand
 -- Assumes nothing.
 use mathlib.Core.Path.{_≡_, refl, sym, ap, ap₂, _∙_}
@@ -72,6 +75,17 @@ size-some p (suc t) h =
     let r : (k : ℕ) × (k < t) × (p k ≡ true) = size-some p t (λ z. h (rw e z)) in
     (r .0, omega arith, r .2))
     (true-or-false (p t))
+
+-- what is within another set has no more numbers than it
+pub size-within : (p q : ℕ → Bool) (t : ℕ) → ((k : ℕ) → k < t → p k ≡ true → q k ≡ true) → sizeOf p t ≤ sizeOf q t
+unfolding sizeOf
+size-within p q zero h = omega arith
+size-within p q (suc t) h = more-within (p t) (q t) (h t (omega arith)) (size-within p q t (λ k l. h k (omega arith)))
+  where
+    more-within : (a b : Bool) {m n : ℕ} → (a ≡ true → b ≡ true) → m ≤ n → moreIf a m ≤ moreIf b n
+    more-within true b h l = rw (h refl) (omega arith)
+    more-within false true h l = omega arith
+    more-within false false h l = l
 
 -- q is p with i taken out, where p has i by the test b
 pub record Without (p q : ℕ → Bool) (i : ℕ) (b : Bool) : Type 0 where
@@ -168,12 +182,21 @@ without-is p i =
       same = λ k h. rw (ne-eqb i k (λ z. h (sym z)), and-true (p k));
     }
 
+-- a number of the set taken out: one less
+pub size-without : (p : ℕ → Bool) (t i : ℕ) → i < t → p i ≡ true → sizeOf p t ≡ suc (sizeOf (without p i) t)
+size-without p t i l e = rw e at (size-less p (without p i) i t (p i) l (without-is p i))
+
+-- two numbers that differ: the set is neither empty nor of one
+pub size-two : (p : ℕ → Bool) (t i j : ℕ) → i < t → p i ≡ true → j < t → p j ≡ true → (j ≡ i → ⊥) → 2 ≤ sizeOf p t
+size-two p t i j l h m g other =
+    let not-none : ¬ (sizeOf p t ≡ 0) = λ z. not-both h (size-zero p t z i l) in
+    let not-one : ¬ (sizeOf p t ≡ 1) = λ z. other (size-one p t z .only j m g ∙ sym (size-one p t z .only i l h)) in
+    omega arith
+
 pub size-other : (p : ℕ → Bool) (t i : ℕ) → (sizeOf p t ≡ 1 → ⊥) → i < t → p i ≡ true
     → (j : ℕ) × (j < t) × (p j ≡ true) × (j ≡ i → ⊥)
 size-other p t i h l e =
-    let c : sizeOf p t ≡ moreIf (p i) (sizeOf (without p i) t) =
-    size-less p (without p i) i t (p i) l (without-is p i) in
-    let c′ : sizeOf p t ≡ suc (sizeOf (without p i) t) = rw e at c in
+    let c : sizeOf p t ≡ suc (sizeOf (without p i) t) = size-without p t i l e in
     let r : (k : ℕ) × (k < t) × (without p i k ≡ true) = size-some (without p i) t (λ z. h (omega arith)) in (
       r .0,
       r .1,

@@ -1,5 +1,4 @@
 -- What a build of one map determines.
---     jam-of            a build that refuses has found a jam
 --     cells-beyond      past C(t) it keeps the cells
 --     fillings-alike    two fillings of the same items with the same values are alike
 --     map-determined    two outcomes of a build on the same input are the same, up to the filling
@@ -13,8 +12,8 @@ use native.Mathlib.Omega.{arith}
 use lib.ListN.{length, drop}
 use Rattle.cells.specs.Cells.{cellCount}
 use Rattle.cells.proofs.Sweeping.{drop-cleared}
-use Rattle.jams.specs.Jam.{Jammed}
-use Rattle.jams.proofs.Jams.{jammed-not-jamless, largest-one-size}
+use Rattle.jams.proofs.Jams.{largest-one-size}
+use Rattle.jams.proofs.Largest.{largest-not-jamless}
 use Rattle.items.specs.Items.{itemsOf, valuesOf}
 use Rattle.maps.specs.Built.{Filled, Built}
 use Rattle.maps.specs.Determined.{Alike, SameOutcome, MapDetermined}
@@ -29,11 +28,6 @@ fillings-alike seed items values before a b F G =
       beyond = F .beyond ∙ sym (G .beyond);
       long = F .long ∙ sym (G .long);
     }
-
--- a build that refuses has found a jam
-pub jam-of : (seed : ℕ) (items : List ℕ) {values cells work cells′ work′ : List ℕ} {size : ℕ}
-    → Built seed items values cells work size cells′ work′ → 0 < size → Jammed seed items
-jam-of seed items B h = let L = B .refused h .0 in (L .0, L .1 .jam)
 
 -- whatever a build answers, the cells from C(t) on are as they were
 pub cells-beyond : (seed : ℕ) (items : List ℕ) {values cells work cells′ work′ : List ℕ} {size : ℕ}
@@ -52,8 +46,8 @@ module _ (seed : ℕ) (items values cells work : List ℕ) where
   one-size : {m n : ℕ} {cells₁ work₁ cells₂ work₂ : List ℕ} → Built seed items values cells work m cells₁ work₁
       → Built seed items values cells work n cells₂ work₂ → (m ≡ 0) ⊎ (0 < m) → (n ≡ 0) ⊎ (0 < n) → m ≡ n
   one-size B C (inl p) (inl q) = p ∙ sym q
-  one-size B C (inl p) (inr q) = absurd (jammed-not-jamless seed items (jam-of seed items C q) (B .accepted p .0))
-  one-size B C (inr p) (inl q) = absurd (jammed-not-jamless seed items (jam-of seed items B p) (C .accepted q .0))
+  one-size B C (inl p) (inr q) = absurd (largest-not-jamless seed items (C .refused q .0) (B .accepted p .0))
+  one-size B C (inr p) (inl q) = absurd (largest-not-jamless seed items (B .refused p .0) (C .accepted q .0))
   one-size B C (inr p) (inr q) = largest-one-size seed items (B .refused p .0) (C .refused q .0)
 
   built-determined : {m n : ℕ} {cells₁ work₁ cells₂ work₂ : List ℕ} → Built seed items values cells work m cells₁ work₁

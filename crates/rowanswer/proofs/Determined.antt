@@ -7,8 +7,9 @@ use native.Mathlib.Omega.{arith}
 use lib.ListN.{length, drop}
 use Rattle.tables.specs.Tables.{Table, firstFall}
 use Rattle.tables.proofs.Rising.{table-no-fall}
-use Rattle.full.proofs.Determined.{jam-not-none}
+use Rattle.full.proofs.Jamming.{first-jam-one, jam-not-none}
 use Rattle.rowinput.proofs.Determined.{one-reading}
+use Rattle.rowoutput.specs.Output.{jamText}
 use Rattle.seeds.specs.Seeds.{SeedJams, SeedTaken}
 use Rattle.rowanswer.specs.Answers.{TableText, bucketSize, falls, jams, answers}
 use Rattle.rowanswer.specs.Answers.{badText, goodText}
@@ -21,26 +22,27 @@ no-fall : (keys : List ℕ) → 0 < firstFall keys → Table keys → ⊥
 no-fall keys h t = omega (arith, table-no-fall keys t)
 
 jams-or-taken : (keys : List ℕ) (b s : ℕ) → SeedJams keys b s → SeedTaken keys b s → ⊥
-jams-or-taken keys b s J T = jam-not-none (J .1) T
+jams-or-taken keys b s J T = jam-not-none (J .1 .1) T
 
 one-table-text : (keys : List ℕ) (b : ℕ) (asks t t′ : List ℕ) → TableText keys b asks t
     → TableText keys b asks t′ → t ≡ t′
 one-table-text keys b asks t t′ (bucketSize o e) (bucketSize o′ e′) = e ∙ sym e′
 one-table-text keys b asks t t′ (bucketSize o e) (falls h l f e′) = absurd (good-bucket b o h l)
-one-table-text keys b asks t t′ (bucketSize o e) (jams h l T j e′) = absurd (good-bucket b o h l)
+one-table-text keys b asks t t′ (bucketSize o e) (jams h l T j m p J e′) = absurd (good-bucket b o h l)
 one-table-text keys b asks t t′ (bucketSize o e) (answers h l T s u v e′) = absurd (good-bucket b o h l)
 one-table-text keys b asks t t′ (falls h l f e) (bucketSize o e′) = absurd (good-bucket b o h l)
 one-table-text keys b asks t t′ (falls h l f e) (falls h′ l′ f′ e′) = e ∙ sym e′
-one-table-text keys b asks t t′ (falls h l f e) (jams h′ l′ T j e′) = absurd (no-fall keys f T)
+one-table-text keys b asks t t′ (falls h l f e) (jams h′ l′ T j m p J e′) = absurd (no-fall keys f T)
 one-table-text keys b asks t t′ (falls h l f e) (answers h′ l′ T s u v e′) = absurd (no-fall keys f T)
-one-table-text keys b asks t t′ (jams h l T j e) (bucketSize o e′) = absurd (good-bucket b o h l)
-one-table-text keys b asks t t′ (jams h l T j e) (falls h′ l′ f e′) = absurd (no-fall keys f T)
-one-table-text keys b asks t t′ (jams h l T j e) (jams h′ l′ T′ j′ e′) = e ∙ sym e′
-one-table-text keys b asks t t′ (jams h l T j e) (answers h′ l′ T′ s u v e′) =
+one-table-text keys b asks t t′ (jams h l T j m p J e) (bucketSize o e′) = absurd (good-bucket b o h l)
+one-table-text keys b asks t t′ (jams h l T j m p J e) (falls h′ l′ f e′) = absurd (no-fall keys f T)
+one-table-text keys b asks t t′ (jams h l T j m p J e) (jams h′ l′ T′ j′ m′ p′ J′ e′) =
+    e ∙ ap jamText (first-jam-one J J′ .1) ∙ sym e′
+one-table-text keys b asks t t′ (jams h l T j m p J e) (answers h′ l′ T′ s u v e′) =
     absurd (jams-or-taken keys b s (j s u) v)
 one-table-text keys b asks t t′ (answers h l T s u v e) (bucketSize o e′) = absurd (good-bucket b o h l)
 one-table-text keys b asks t t′ (answers h l T s u v e) (falls h′ l′ f e′) = absurd (no-fall keys f T)
-one-table-text keys b asks t t′ (answers h l T s u v e) (jams h′ l′ T′ j e′) =
+one-table-text keys b asks t t′ (answers h l T s u v e) (jams h′ l′ T′ j m p J e′) =
     absurd (jams-or-taken keys b s (j s u) v)
 one-table-text keys b asks t t′ (answers h l T s u v e) (answers h′ l′ T′ s′ u′ v′ e′) = e ∙ sym e′
 

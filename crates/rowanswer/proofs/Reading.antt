@@ -2,6 +2,7 @@
 use mathlib.Core.Path.{_≡_, refl, sym, ap, _∙_}
 use mathlib.Core.List.{List, _++_}
 use Prim.Native.Nat.{ℕ, _≤_, _<_, min}
+use borrow.Author.Count.{below-more}
 use native.Mathlib.Omega.{arith}
 use lib.ListN.{length, take, drop, length-append}
 use lib.Seq.{take-at, length-take-le}
@@ -9,9 +10,9 @@ use Rattle.refusals.specs.declared.Refusal.{Refusal}
 use Rattle.rowinput.specs.Input.{Fine, InputHeld, ReadsInput}
 use Rattle.rowinput.specs.declared.Input.{Input}
 use Rattle.rowinput.specs.declared.Input.the-variants.{Taken, Refused}
-use Rattle.rowoutput.specs.Output.{refusedText}
+use Rattle.rowoutput.specs.Output.{refusedText, jamText}
 use Rattle.seeds.specs.Seeds.{SeedJams}
-use Rattle.seeds.specs.Inner.{Refuses, badBucket, falling, jammed}
+use Rattle.seeds.specs.Inner.{Refuses, badBucket, falling, Jams}
 use Rattle.rowanswer.specs.Answers.{TableText, bucketSize, falls, jams, RowcheckText, badText, goodText}
 use Rattle.rowanswer.specs.Inner.{ShownWhereRoom, ShowsWhereRoom}
 
@@ -66,9 +67,12 @@ module _ (s keys asks keys′ asks′ : List ℕ) {r : Input} (R : ReadsInput s 
       let none = (rw e at R) .1 in
       (refusedText 8, (badText (λ b ks qs F t. none b ks qs (fine-within (omega arith) (omega arith) F) t) refl, S))
 
--- the text of a table's refusal
-pub refuses-text : {keys : List ℕ} {b k : ℕ} (asks : List ℕ)
-    → Refuses keys b ((s : ℕ) → s < 256 → SeedJams keys b s) k → TableText keys b asks (refusedText k)
+-- the text of a table's refusal, and of a jam under the last seed after jams under all others
+pub refuses-text : {keys : List ℕ} {b k : ℕ} (asks : List ℕ) → Refuses keys b k → TableText keys b asks (refusedText k)
 refuses-text asks (badBucket o e) = bucketSize o (rw e)
 refuses-text asks (falling two most h e) = falls two most h (rw e)
-refuses-text asks (jammed two most t J e) = jams two most t J (rw e)
+
+pub jam-text : {keys : List ℕ} {b size : ℕ} (asks : List ℕ) → ((s : ℕ) → s < 255 → SeedJams keys b s)
+    → (map : ℕ) × Jams keys b 255 map size → TableText keys b asks (jamText size)
+jam-text {size = size} asks before (map, J) =
+    jams (J .two) (J .most) (J .table) (below-more _ 255 before (map, (size, J .first))) map size (J .first) refl

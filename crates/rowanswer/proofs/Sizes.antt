@@ -15,13 +15,14 @@ use Rattle.neighbour.specs.Ask.{standsAt}
 use Rattle.index.specs.Answers.{rowOf, probesOf}
 use Rattle.walks.proofs.Answering.{walk-six}
 use Rattle.walks.proofs.Deciding.{smaller-most}
+use Rattle.full.proofs.Jamming.{jam-sized}
 use Rattle.digits.specs.Texts.{bytes}
 use Rattle.lines.specs.Lines.{texts}
 use Rattle.rowinput.specs.Input.{NoInput}
 use Rattle.rowoutput.specs.Output.{headText, answersText}
 use Rattle.rowoutput.specs.declared.Called.the-variants.{Row, Absent}
 use Rattle.rowinput.proofs.Determined.{longest}
-use Rattle.rowoutput.proofs.Printing.{Narrow, decimal-longest, ask-longest}
+use Rattle.rowoutput.proofs.Printing.{Narrow, decimal-longest, ask-longest, jam-longest}
 use Rattle.rowoutput.specs.Output.{refusedText}
 use Rattle.asks.specs.Asks.{askLines}
 use Rattle.rowanswer.specs.Answers.{answered, TableText}
@@ -69,7 +70,8 @@ table-longest : (keys : List ℕ) (b : ℕ) (asks text : List ℕ) → length ke
     → TableText keys b asks text → length text ≤ 52762
 table-longest keys b asks text few some (bucketSize o e) = refused-longest text 2 (omega arith) e
 table-longest keys b asks text few some (falls h l f e) = refused-longest text 3 (omega arith) e
-table-longest keys b asks text few some (jams h l t j e) = refused-longest text 5 (omega arith) e
+table-longest keys b asks text few some (jams h l t j m p J e) =
+    omega (arith, ap length e, jam-longest p (omega (arith, jam-sized (omega arith) J .1)))
 table-longest keys b asks text few some (answers h l t s u v e) =
     omega (arith, ap length e, answered-longest keys t few asks some)
 

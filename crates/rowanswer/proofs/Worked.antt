@@ -3,7 +3,7 @@ use mathlib.Core.Path.{refl}
 use Rattle.digits.specs.Numbers.{decimalText, countIn, hexText, digitsIn}
 use Rattle.lines.specs.Lines.{texts}
 use Rattle.rowinput.specs.Input.{rowText}
-use Rattle.rowoutput.specs.Output.{askText, answersText}
+use Rattle.rowoutput.specs.Output.{askText, answersText, jamText}
 use Rattle.rowanswer.specs.Worked.{TextsWorked, NumbersWorked}
 
 pub texts-worked : TextsWorked
@@ -11,5 +11,5 @@ unfolding rowText answersText askText texts hexText decimalText digitsIn countIn
 texts-worked = (refl, refl)
 
 pub numbers-worked : NumbersWorked
-unfolding hexText decimalText digitsIn countIn
-numbers-worked = (refl, refl, refl, refl, refl)
+unfolding jamText hexText decimalText digitsIn countIn
+numbers-worked = (refl, refl, refl, refl, refl, refl)

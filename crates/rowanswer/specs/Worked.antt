@@ -7,7 +7,7 @@ use lib.Dec.{eqb}
 use Rattle.digits.specs.Texts.{bytes}
 use Rattle.digits.specs.Numbers.{decimalText, hexText, mostWord}
 use Rattle.rowinput.specs.Input.{rowText}
-use Rattle.rowoutput.specs.Output.{answersText, refusedText}
+use Rattle.rowoutput.specs.Output.{answersText, refusedText, jamText}
 use Rattle.rowoutput.specs.declared.Called.{Called}
 use Rattle.rowoutput.specs.declared.Called.the-variants.{Row, Absent}
 
@@ -42,8 +42,8 @@ abbrev pub TextsWorked : Type 0
 TextsWorked = (rowText 2 (2 ∷ 3 ∷ 8 ∷ []) (3 ∷ 9 ∷ 16 ∷ 0 ∷ []) ≡ sampleInput)
     × (answersText 3 sampleCall sampleBefore sampleProbes (3 ∷ 9 ∷ 16 ∷ 0 ∷ []) ≡ sampleOutput)
 
--- numbers in decimal and as 16 hexadecimal digits, and a refusal
+-- numbers in decimal and as 16 hexadecimal digits, a refusal, and a jam of four items
 abbrev pub NumbersWorked : Type 0
 NumbersWorked = (decimalText 0 ≡ bytes "0") × (decimalText 65535 ≡ bytes "65535")
     × (decimalText mostWord ≡ bytes "18446744073709551615") × (hexText (mostWord - 1) ≡ bytes "fffffffffffffffe")
-    × (refusedText 5 ≡ bytes "refused=5\n")
+    × (refusedText 5 ≡ bytes "refused=5\n") × (jamText 4 ≡ bytes "refused=5\njammed=4\n")

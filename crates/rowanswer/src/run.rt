@@ -6,7 +6,7 @@ ghost use Rattle.io.specs.Counts.{Counts};
 ghost use Rattle.stores.specs.Stores.{asked, same};
 ghost use Rattle.index.specs.Answers.{Answers};
 ghost use Rattle.refusals.specs.Numbers.{number};
-ghost use Rattle.rowoutput.specs.Output.{refusedText};
+ghost use Rattle.rowoutput.specs.Output.{refusedText, jamText};
 ghost use Rattle.rowanswer.specs.Answers.{answered, TableText, RowcheckText, Shows};
 ghost use Rattle.rowanswer.specs.Inner.{ShownWhereRoom, ShowsWhereRoom};
 use asks::answer_asks;
@@ -15,6 +15,7 @@ use index::Refusal;
 use rowinput::Input;
 use rowinput::read_input;
 use rowoutput::write_head;
+use rowoutput::write_jam;
 use rowoutput::write_refusal;
 use seeds::Choice;
 use seeds::first_seed;
@@ -24,6 +25,13 @@ fn refuse(out: &mut [u8], refusal: Refusal) -> usize
     ensures { λ r. ⌜ ShownWhereRoom (refusedText (number refusal)) (now (out .entry)) r (now (out .exit)) ⌝ }
 {
     write_refusal(out, 0, refusal).or(0)
+}
+
+// The same of a jam: refusal 5, and the size.
+fn refuse_jam(out: &mut [u8], size: usize) -> usize
+    ensures { λ r. ⌜ ShownWhereRoom (jamText size) (now (out .entry)) r (now (out .exit)) ⌝ }
+{
+    write_jam(out, 0, size).or(0)
 }
 
 // The head line and the lines of all asks.
@@ -49,7 +57,8 @@ fn print_answers(
     answer_asks(keys, b, seed, cells, handles, left, right, asks, out, i).or(0)
 }
 
-// The answers by the first seed that is taken, in stores as long as 2,048 keys can want; or the refusal of the table.
+// The answers by the first seed that is taken, in stores as long as 2,048 keys can want; or the refusal of the table, or
+// the jam under the last seed.
 fn answer_in(
     keys: &[u64],
     b: usize,
@@ -69,6 +78,7 @@ fn answer_in(
     match first_seed(keys, b, cells, handles, left, right, work) {
         Choice::Seed(seed) => print_answers(keys, b, seed, cells, handles, left, right, asks, out),
         Choice::Refused(refusal) => refuse(out, refusal),
+        Choice::Jammed(size) => refuse_jam(out, size),
     }
 }
 

@@ -1,5 +1,5 @@
--- The four lines of an ask: how long they are and can be, and that lines put one after the other in a room for all
--- are the whole. Assumes nothing.
+-- The four lines of an ask and the two of a jam: how long they are and can be, and that lines put one after the other
+-- in a room for all are the whole. Assumes nothing.
 use Prim.Native.Nat.{ℕ, _+_, _^_, _<_, _≤_}
 use native.Mathlib.Omega.{arith}
 use mathlib.Core.List.{List, _++_}
@@ -15,7 +15,7 @@ use Rattle.lines.specs.declared.Kind.the-variants.{Decimal, Hex}
 use Rattle.lines.proofs.Lining.{line-size}
 use Rattle.refusals.specs.Numbers.{number}
 use Rattle.refusals.specs.declared.Refusal.{Refusal}
-use Rattle.rowoutput.specs.Output.{callText, askText, refusedText}
+use Rattle.rowoutput.specs.Output.{callText, askText, refusedText, jamText}
 use Rattle.rowoutput.specs.declared.Called.{Called}
 use Rattle.rowoutput.specs.declared.Called.the-variants.{Row, Absent}
 
@@ -57,6 +57,21 @@ pub refusal-put : (k : ℕ) (refusal : Refusal) (out after : List ℕ) (i : ℕ)
     → k ≡ number refusal → Writes (refusedText (number refusal)) out i after r
 refusal-put k refusal out after i r w e = rw e at w
 
+-- the two lines of a jam
+abbrev jammedLine : ℕ → List ℕ
+jammedLine size = line Decimal (bytes "jammed=") size
+
+module _ (size : ℕ) where
+  pub jam-length : length (jamText size) ≡ length (refusedText 5) + length (jammedLine size)
+  unfolding jamText
+  jam-length = length-append (refusedText 5) (jammedLine size)
+
+  pub two-lines : (out mid after : List ℕ) (i j : ℕ) (r q : Next) → i + length (jamText size) ≤ length out
+      → Writes (refusedText 5) out i mid r → j ≡ nextOr r i → Writes (jammedLine size) mid j after q
+      → Writes (jamText size) out i after q
+  unfolding jamText
+  two-lines out mid after i j r q room w e v = writes-on _ _ _ _ _ i j i _ _ room w e (λ room′. v)
+
 -- a row of 64 bits, or none
 abbrev pub Narrow : Called → Type 0
 Narrow (Row row) = row < 2 ^ 64
@@ -80,4 +95,12 @@ ask-longest x call before probes hc hb hp =
     let c = call-longest call hc in
     let d : length (beforeLine before) ≤ 7 + 21 = decimal-longest (bytes "before=") before hb in
     let e : length (probesLine probes) ≤ 7 + 21 = decimal-longest (bytes "probes=") probes hp in
+    omega arith
+
+-- and 57 for any jam
+pub jam-longest : (size : ℕ) → size < 2 ^ 64 → length (jamText size) ≤ 57
+jam-longest size h =
+    let a = jam-length size in
+    let b : length (refusedText 5) ≤ 8 + 21 = decimal-longest (bytes "refused=") 5 (omega arith) in
+    let c : length (jammedLine size) ≤ 7 + 21 = decimal-longest (bytes "jammed=") size h in
     omega arith

@@ -1,4 +1,4 @@
--- Document 01, "`rowcheck`": what is printed.
+-- Document 01, "`rowcheck`", and request Five: what is printed.
 use Prim.Native.Nat.{ℕ}
 use mathlib.Core.List.{List, _++_}
 use Rattle.digits.specs.Texts.{bytes}
@@ -29,3 +29,7 @@ answersText n call before probes qs = headText n ++ texts (λ x. askText x (call
 -- a refusal, by its number alone
 abbrev pub refusedText : ℕ → List ℕ
 refusedText k = line Decimal (bytes "refused=") k
+
+-- request Five: where all seeds jam, a second line with the size of the largest jam
+unfoldable pub jamText : ℕ → List ℕ
+jamText size = refusedText 5 ++ line Decimal (bytes "jammed=") size

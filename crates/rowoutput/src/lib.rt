@@ -1,5 +1,5 @@
-// What `rowcheck` prints (document 01, "`rowcheck`"). Each function writes its lines at position i of a slice of bytes,
-// or nothing where there is no room for all of them.
+// What `rowcheck` prints (document 01, "`rowcheck`", and request Five). Each function writes its lines at position i of a
+// slice of bytes, or nothing where there is no room for all of them.
 //
 // Every function is proved and the crate assumes nothing. No public function has a `requires`.
 ghost use mathlib.Core.Path.{_≡_};
@@ -7,7 +7,7 @@ ghost use Prim.Native.Nat.{_≤_};
 ghost use lib.ListN.{length};
 ghost use Rattle.digits.specs.Texts.{Writes};
 ghost use Rattle.refusals.specs.Numbers.{number};
-ghost use Rattle.rowoutput.specs.Output.{headText, callText, askText, refusedText};
+ghost use Rattle.rowoutput.specs.Output.{headText, callText, askText, refusedText, jamText};
 use digits::Next;
 use lines::Kind;
 use lines::line;
@@ -32,6 +32,27 @@ pub fn write_refusal(out: &mut [u8], i: usize, refusal: Refusal) -> Next
     ensures { λ r. ⌜ Writes (refusedText (number refusal)) (now (out .entry)) i (now (out .exit)) r ⌝ }
 {
     line::write_line(out, i, b"refused=", Kind::Decimal, refusal.number())
+}
+
+fn jam_length(size: usize) -> usize
+    ensures { λ r. ⌜ r ≡ length (jamText size) ⌝ }
+{
+    line::line_length(b"refused=", Kind::Decimal, 5)
+        + line::line_length(b"jammed=", Kind::Decimal, size as u64)
+}
+
+// The two lines where all seeds jam: `refused=5`, then `jammed=` and the size of the largest jam.
+pub fn write_jam(out: &mut [u8], i: usize, size: usize) -> Next
+    ensures { λ r. ⌜ Writes (jamText size) (now (out .entry)) i (now (out .exit)) r ⌝ }
+{
+    if out.len() < i {
+        return Next::Off;
+    }
+    if out.len() - i < jam_length(size) {
+        return Next::Off;
+    }
+    let a = line::write_line(out, i, b"refused=", Kind::Decimal, 5).or(i);
+    line::write_line(out, a, b"jammed=", Kind::Decimal, size as u64)
 }
 
 fn call_length(call: Called) -> usize

@@ -1,7 +1,6 @@
 // The words that the programs print.
 use crate::table::Sample;
 use libc::STDOUT_FILENO;
-use refusals::Refusal;
 use refusals::Verdict;
 
 pub fn word(w: &[u8]) {
@@ -20,18 +19,20 @@ pub fn hex(tag: &[u8], v: u64) {
     io::print_hex(STDOUT_FILENO, v, 16);
 }
 
-fn refused(r: Refusal) {
-    number(b"refused=", r.number());
-    number(b".", r.named());
+fn verdict(v: Verdict) {
+    if v.number() == 0 {
+        word(b"taken");
+        return;
+    }
+    number(b"refused=", v.number());
+    number(b".", v.named());
 }
 
-// A tag, and what a build says.
+// A tag, and what a build says, with the size that it reports.
 pub fn said(tag: &[u8], v: Verdict) {
     word(tag);
-    match v {
-        Verdict::Taken => word(b"taken"),
-        Verdict::Refused(r) => refused(r),
-    }
+    verdict(v);
+    number(b".", v.jam_size() as u64);
 }
 
 fn name(sample: Sample) {

@@ -26,10 +26,10 @@ fn digest_first(before: u64, n: usize, store: &[u16]) -> u64 {
 
 // The same of a store of cells, but only after a refusal: which of the fitting fillings is written is free.
 fn digest_cells(said: Verdict, before: u64, n: usize, cells: &[u16]) -> u64 {
-    match said {
-        Verdict::Taken => before,
-        Verdict::Refused(_) => digest_first(before, n, cells),
+    if said.number() == 0 {
+        return before;
     }
+    digest_first(before, n, cells)
 }
 
 // Builds in stores of the lengths that are lent, at most those that 2,000 keys in buckets of two rows ask for.
@@ -90,10 +90,7 @@ pub fn verdict(keys: &[u64], b: usize, seed: u64) -> Verdict {
 }
 
 fn takes(keys: &[u64], b: usize, seed: u64) -> bool {
-    match verdict(keys, b, seed) {
-        Verdict::Taken => true,
-        Verdict::Refused(_) => false,
-    }
+    verdict(keys, b, seed).number() == 0
 }
 
 // The first seed of 0 to 255, the same for all maps, that the build takes; 255 also where it takes none.

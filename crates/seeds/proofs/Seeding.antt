@@ -1,5 +1,5 @@
--- What the build of a seed leaves, and which refusals a table can get from it: the stores are long enough, so neither 1
--- nor 4. Assumes nothing.
+-- What the build of a seed says and leaves, and which refusals a table can get from it: the stores are long enough, so
+-- neither 1 nor 4. Assumes nothing.
 use mathlib.Core.Path.{_≡_, refl, sym, _∙_}
 use mathlib.Core.List.{List}
 use mathlib.Core.Logic.{_⊎_, inl, inr}
@@ -7,10 +7,10 @@ use Prim.Native.Nat.{ℕ, _-_, _≤_, _<_}
 use native.Mathlib.Decide.{decLe}
 use native.Mathlib.Omega.{arith}
 use lib.ListN.{length}
-use Rattle.refusals.specs.Numbers.{taken, refused, saidByBuild}
+use Rattle.refusals.specs.Numbers.{taken, refused, jammed, saidByBuild}
 use Rattle.refusals.specs.declared.Verdict.{Verdict}
-use Rattle.refusals.specs.declared.Verdict.the-variants.{Taken, Refused}
-use Rattle.refusals.proofs.Naming.{not-taken}
+use Rattle.refusals.specs.declared.Verdict.the-variants.{Taken, Refused, Jammed}
+use Rattle.refusals.proofs.Naming.{not-taken, jam-not-taken, jam-not-refused}
 use Rattle.cells.specs.Cells.{cellCount}
 use Rattle.tables.specs.Tables.{Table, firstFall}
 use Rattle.tables.specs.Delimiters.{buckets}
@@ -26,20 +26,13 @@ use Rattle.index.specs.Answers.{Words}
 use Rattle.index.proofs.Accepted.{full-accepted, accepted-table}
 use Rattle.index.proofs.Answering.{build-answers}
 use Rattle.seeds.specs.Seeds.{SeedJams}
-use Rattle.seeds.specs.Inner.{Refuses, badBucket, falling, jammed, SeedTried}
+use Rattle.seeds.specs.Inner.{Refuses, badBucket, falling, Jams, SeedTried}
 
-module _ {keys : List ℕ} {b : ℕ} where
-  -- refusal 5 is for jams
-  pub refused-jams : {J : Type 0} {k : ℕ} → Refuses keys b J k → k ≡ 5 → J
-  refused-jams (badBucket o e) five = absurd (omega arith)
-  refused-jams (falling two most h e) five = absurd (omega arith)
-  refused-jams (jammed two most t J e) five = J
-
-  -- the same refusal, with more said of its jams
-  pub refuses-by : {J K : Type 0} {k : ℕ} → (k ≡ 5 → J → K) → Refuses keys b J k → Refuses keys b K k
-  refuses-by f (badBucket o e) = badBucket o e
-  refuses-by f (falling two most h e) = falling two most h e
-  refuses-by f (jammed two most t J e) = jammed two most t (f e J) e
+-- the last seed jams after all others did
+pub last-jam : {keys : List ℕ} {b seed map size : ℕ} → seed ≡ 255 → ((s : ℕ) → s < seed → SeedJams keys b s)
+    → Jams keys b seed map size
+    → ((s : ℕ) → s < 255 → SeedJams keys b s) × ((map : ℕ) × Jams keys b 255 map size)
+last-jam {map = map} last before J = rw (← last) (before, (map, J))
 
 -- a table of rowcheck, with stores for 2,048 keys
 module _ (keys : List ℕ) (words : Words keys) (few : length keys ≤ 2048) (b s : ℕ) (cells handles left right work : List ℕ)
@@ -87,16 +80,23 @@ module _ (keys : List ℕ) (words : Words keys) (few : length keys ≤ 2048) (b 
         ]
       ]
 
-  -- a build that refuses: the table is refused, or the seed jams
-  refuses : (k i : ℕ) (S′ : Stores) → FullBuilt keys b (same s) S (refused k i) S′
-      → Refuses keys b (SeedJams keys b s) k
+  -- a build that refuses: the table is refused
+  refuses : (k i : ℕ) (S′ : Stores) → FullBuilt keys b (same s) S (refused k i) S′ → Refuses keys b k
   refuses k i S′ (refusal k′ i′ j e c) =
       judging (λ o t. badBucket o (cc)) (λ two most h t. falling two most h (cc))
       (λ two most T t. not-taken k′ i′ j t)
-  refuses k i S′ (jam map j F e c) =
-      judging (λ o t. not-taken 2 0 t j) (λ two most h t. not-taken 3 (firstFall keys) t j)
-      (λ two most T t. jammed two most T (map, F) (cc))
+  refuses k i S′ (jam map size j F e c) = jam-not-refused map size k i e refl
   refuses k i S′ (accepted j N e F) = not-taken k i refl e
+
+  -- one with a jam: nothing else is refused
+  jams : (map size : ℕ) (S′ : Stores) → FullBuilt keys b (same s) S (jammed map size) S′ → Jams keys b s map size
+  jams map size S′ (refusal k i j e c) = jam-not-refused map size k i refl e
+  jams map size S′ (jam map′ size′ j F e c) =
+      let one : map ≡ map′ = cc in
+      let all : size ≡ size′ = cc in
+      judging (λ o t. not-taken 2 0 t j) (λ two most h t. not-taken 3 (firstFall keys) t j)
+      (λ two most T t. record { two = two; most = most; table = T; first = rw (one, all) F })
+  jams map size S′ (accepted j N e F) = jam-not-taken map size refl e
 
   pub tried : (said : Verdict) (c h l r w : List ℕ)
       → FullBuilt keys b (same s) S (saidByBuild said) (lent c h l r w) → SeedTried keys b s (asked c h l r) said
@@ -113,3 +113,4 @@ module _ (keys : List ℕ) (words : Words keys) (few : length keys ≤ 2048) (b 
         answers = record { calls = both .calls; counts = both .counts };
       }
   tried (Refused f) c h l r w B = refuses _ _ _ B
+  tried (Jammed map size) c h l r w B = jams map size _ B

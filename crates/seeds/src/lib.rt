@@ -1,5 +1,5 @@
-// The first seed that the build takes (document 01, "`rowcheck`", and request Seven): seeds 0, 1, .. 255, the same for
-// all maps, in stores as long as 2,048 keys can want.
+// The first seed that the build takes (document 01, "`rowcheck`", and requests Seven and Five): seeds 0, 1, .. 255, the
+// same for all maps, in stores as long as 2,048 keys can want.
 //
 // Every function is proved and the crate assumes nothing.
 ghost use Prim.Native.Nat.{_≤_};
@@ -9,10 +9,12 @@ ghost use Rattle.seeds.specs.Inner.{SeedTried, Chose};
 use index::Refusal;
 use index::Verdict;
 
-// A seed, or the refusal of the table, which is that of the last seed where all jam.
+// A seed; or the refusal of the table, whatever the seed; or, where all seeds jam, the size of the largest jam of the
+// first jammed map under the last one.
 pub enum Choice {
     Seed(u64),
     Refused(Refusal),
+    Jammed(usize),
 }
 
 // What the build says of the seed, the same for all maps.
@@ -51,15 +53,18 @@ pub fn first_seed(
 {
     let mut seed: u64 = 0;
     loop {
-        let Verdict::Refused(refusal) = try_seed(keys, b, seed, cells, handles, left, right, work)
-        else {
-            return Choice::Seed(seed);
-        };
-        if refusal.number() != 5 {
-            return Choice::Refused(refusal);
-        }
-        if seed == 255 {
-            return Choice::Refused(refusal);
+        match try_seed(keys, b, seed, cells, handles, left, right, work) {
+            Verdict::Taken => {
+                return Choice::Seed(seed);
+            }
+            Verdict::Refused(refusal) => {
+                return Choice::Refused(refusal);
+            }
+            Verdict::Jammed { map: _, size } => {
+                if seed == 255 {
+                    return Choice::Jammed(size);
+                }
+            }
         }
         seed += 1;
     }

@@ -1,6 +1,6 @@
 -- What the judging of a build says: where no store is too short each has its named length, and the refusals come in
 -- their order. Assumes nothing.
-use mathlib.Core.Path.{_≡_, refl, sym, ap, _∙_}
+use mathlib.Core.Path.{_≡_, refl, sym, _∙_}
 use mathlib.Core.Bool.{Bool, true, false, cond}
 use mathlib.Core.List.{List}
 use Prim.Native.Nat.{ℕ, suc, _≤_, _<_}
@@ -8,12 +8,13 @@ use native.Mathlib.Omega.{arith}
 use borrow.Author.Tests.{ltb-false}
 use lib.Dec.{ltb}
 use lib.ListN.{length}
+use Rattle.basics.proofs.Bools.{differ}
 use Rattle.refusals.specs.Numbers.{BuildSaid, taken, refused}
 use Rattle.refusals.proofs.Naming.{test-passed}
 use Rattle.tables.specs.Tables.{mostKeys, firstFall}
 use Rattle.stores.specs.Sizes.{shortStore, Fits}
 use Rattle.stores.specs.Judged.{fallOrShort, judged}
-use Rattle.stores.specs.Vouched.{NoneShortIff, NoneRefusedIff}
+use Rattle.stores.specs.Vouched.{NoneShortIff, NoneRefusedIff, OneToFour}
 use Rattle.stores.specs.declared.Sizes.{Sizes}
 use Rattle.stores.proofs.Chains.{goes-on, refuses}
 
@@ -95,6 +96,23 @@ module _ (keys : List ℕ) (b : ℕ) (have want : Sizes) where
   passed-judged P =
       limits-pass (P .few) (P .two) (P .most)
       ∙ sym (neither keys have want refl refl (omega (arith, P .rises)) (omega (arith, all-fit have want (P .fits))))
+
+-- only refusals 1 to 4 are judged: at each test of the chain the refusal is one of them
+low-test : (t : Bool) (k : ℕ) {i : ℕ} (a j : ℕ) {rest : BuildSaid} → (1 ≤ a) × (a ≤ 4)
+    → (rest ≡ refused k i → (1 ≤ k) × (k ≤ 4)) → cond t (refused a j) rest ≡ refused k i → (1 ≤ k) × (k ≤ 4)
+low-test true k a j low on e = let same : a ≡ k = cc in rw same at low
+low-test false k a j low on e = on e
+
+pub one-to-four : OneToFour
+unfolding judged fallOrShort
+one-to-four keys b have want k i =
+    let short = shortStore have want in
+    let fall = firstFall keys in
+    low-test (ltb mostKeys (length keys)) k 1 0 (omega arith, omega arith)
+    (low-test (ltb b 2) k 2 0 (omega arith, omega arith)
+    (low-test (ltb 256 b) k 2 0 (omega arith, omega arith)
+    (low-test (ltb 0 fall) k 3 fall (omega arith, omega arith)
+    (low-test (ltb 0 short) k 4 short (omega arith, omega arith) (λ e. differ (cc))))))
 
 -- so the definitions are what document 01 says
 pub none-short-iff : NoneShortIff

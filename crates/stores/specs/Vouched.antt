@@ -4,7 +4,7 @@ use mathlib.Core.List.{List}
 use mathlib.Core.Logic.{_↔_}
 use Prim.Native.Nat.{ℕ, _≤_}
 use lib.ListN.{length}
-use Rattle.refusals.specs.Numbers.{taken}
+use Rattle.refusals.specs.Numbers.{taken, refused}
 use Rattle.tables.specs.Tables.{firstFall}
 use Rattle.stores.specs.Sizes.{shortStore, Fits}
 use Rattle.stores.specs.Judged.{judged}
@@ -20,3 +20,8 @@ abbrev pub NoneRefusedIff : Type 0
 NoneRefusedIff =
     (keys : List ℕ) (b : ℕ) (have want : Sizes) → (judged keys b have want ≡ taken)
     ↔ ((length keys ≤ 32768) × (2 ≤ b) × (b ≤ 256) × (firstFall keys ≡ 0) × Fits have want)
+
+-- what is refused then is one of refusals 1 to 4
+abbrev pub OneToFour : Type 0
+OneToFour =
+    (keys : List ℕ) (b : ℕ) (have want : Sizes) (k i : ℕ) → judged keys b have want ≡ refused k i → (1 ≤ k) × (k ≤ 4)

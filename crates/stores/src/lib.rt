@@ -5,14 +5,12 @@
 // are handed; the others ask for sizes that their callers have tested.
 ghost use mathlib.Core.Path.{_≡_};
 ghost use Prim.Native.Nat.{_≤_};
-ghost use Rattle.refusals.specs.Numbers.{saidByBuild};
 ghost use Rattle.stores.specs.Sizes.{shortStore, fullSizes, callSizes, neighbourSizes, saidByLend, namedLengths};
 ghost use Rattle.stores.specs.Sizes.{Fits};
 ghost use Rattle.stores.specs.Stores.{lent, sizesOf, clearedStores};
-ghost use Rattle.stores.specs.Judged.{fallOrShort};
+ghost use Rattle.stores.specs.Judged.{fallOrShort, saidByJudge};
 use cells::clear;
 use refusals::Refusal;
-use refusals::Verdict;
 use tables::lengths::call_cells;
 use tables::lengths::call_work;
 use tables::lengths::handle_cells;
@@ -31,6 +29,12 @@ pub struct Sizes {
 // What a caller has to lend, or the refusal that the build would give whatever is lent.
 pub enum Lend {
     Sizes(Sizes),
+    Refused(Refusal),
+}
+
+// What is said of a build before it builds.
+pub enum Judged {
+    Passed,
     Refused(Refusal),
 }
 
@@ -116,18 +120,18 @@ pub fn named_lengths(n: usize, b: usize) -> Lend
 }
 
 // Refusals 3 and 4 of a build, once 1 and 2 do not apply.
-pub fn judge(keys: &[u64], have: Sizes, want: Sizes) -> Verdict
-    ensures { λ r. ⌜ saidByBuild r ≡ fallOrShort (now (keys .entry)) have want ⌝ }
+pub fn judge(keys: &[u64], have: Sizes, want: Sizes) -> Judged
+    ensures { λ r. ⌜ saidByJudge r ≡ fallOrShort (now (keys .entry)) have want ⌝ }
 {
     let row = first_fall(keys);
     let short = short_store(have, want);
     if 0 < row {
-        return Verdict::Refused(Refusal::Falls(row));
+        return Judged::Refused(Refusal::Falls(row));
     }
     if 0 < short {
-        return Verdict::Refused(Refusal::Short(short));
+        return Judged::Refused(Refusal::Short(short));
     }
-    Verdict::Taken
+    Judged::Passed
 }
 
 // All stores become 0 over their named lengths, those too that were not written: what a jam leaves.

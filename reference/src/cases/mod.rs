@@ -15,10 +15,17 @@ pub struct Case {
     pub input: Vec<u8>,
     /// The refusal that the input is made for, none for a valid input.
     pub refused: Option<u32>,
+    /// The size that refusal 5 is to tell of, 0 with the others.
+    pub jammed: usize,
 }
 
 pub fn case(name: impl Into<String>, input: impl Into<Vec<u8>>, refused: Option<u32>) -> Case {
-    Case { name: name.into(), input: input.into(), refused }
+    Case { name: name.into(), input: input.into(), refused, jammed: 0 }
+}
+
+/// An input under which all seeds jam, with the size of the jam that is told of.
+pub fn jam_case(name: impl Into<String>, input: impl Into<Vec<u8>>, jammed: usize) -> Case {
+    Case { jammed, ..case(name, input, Some(5)) }
 }
 
 /// The text of an input in the right form. The bucket size is a text, as it may be a bad one.
@@ -44,6 +51,10 @@ pub fn write(directory: &Path) -> std::io::Result<()> {
         assert!(names.insert(&case.name), "two cases are called {}", case.name);
         let output = rowcheck::run(&case.input);
         match case.refused {
+            Some(5) => {
+                let lines = format!("refused=5\njammed={}\n", case.jammed);
+                assert_eq!(output, lines, "{}", case.name);
+            }
             Some(number) => assert_eq!(output, format!("refused={number}\n"), "{}", case.name),
             None => {
                 assert!(output.starts_with("keys="), "{} is refused", case.name);

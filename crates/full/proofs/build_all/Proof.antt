@@ -1,7 +1,6 @@
 -- `full::build_all` meets its contract: what stands after the maps is accepted, or cleared. Assumes nothing.
 use mathlib.Core.Path.{ap, _∙_}
 use borrow.Author.Needs.{needs}
-use Rattle.refusals.specs.Numbers.{saidByBuild}
 use Rattle.stores.specs.Stores.{Stores, lent, clearedStores}
 use Rattle.stores.specs.declared.Sizes.{Sizes}
 use Rattle.full.proofs.Building.{limits, still-fits, all-stands, all-cleared}
@@ -35,14 +34,14 @@ clear-stores-requires c κs =
 returns : tie.Need-returns
 returns c =
     let m = c .before .before .before .before .before .before .before .before .before .before .before .before in
-    all-stands (start m .pre) (m .build-maps .ensures) (ap saidByBuild (c .enum-told .given .1))
+    all-stands (start m .pre) (left-by m) (m .build-maps .ensures) (c .enum-told .given .1)
 
 returns-2 : tie.Need-returns-2
 returns-2 c =
     let k = c .before .before .before .before .before .before .before .before .before .before in
     let f = k .before .before .before .before .before .before in
     let m = built f in
-    all-cleared (start m .pre) (m .build-maps .ensures) (ap saidByBuild (f .before .before .refusal .given .1))
+    all-cleared (start m .pre) (left-by m) (m .build-maps .ensures) (f .before .before .map .given .1)
     (k .clear-stores .ensures ∙ ap (λ (w : Sizes). clearedStores w (left-by m)) (f .full-sizes .ensures))
 
 pub build-all-spec : {M : Type 1} → statement M

@@ -3,10 +3,11 @@
 use mathlib.Core.Path.{_≡_, refl, sym, ap, _∙_}
 use borrow.Author.Needs.{needs}
 use lib.ListN.{length}
-use Rattle.refusals.specs.Numbers.{taken, saidByBuild}
+use Rattle.refusals.specs.Numbers.{taken}
 use Rattle.tables.proofs.Rising.{no-fall-table}
 use Rattle.stores.specs.Sizes.{fullSizes, saidByLend}
 use Rattle.stores.specs.Stores.{Stores, lent, sizesOf}
+use Rattle.stores.specs.Judged.{saidByJudge}
 use Rattle.stores.proofs.Judging.{judged-passed}
 use Rattle.stores.proofs.Lending.{Named, named-by, refused-by, judged-by}
 use Rattle.full.specs.Build.{fullJudged, refusal}
@@ -48,7 +49,7 @@ returns-2 c =
     let s = start (lengths j) in
     refusal _ _
     (judged-by (s .args .keys .now) (s .args .b) (sizesOf (stores s)) (named j)
-    (sym (ap saidByBuild (c .before .refusal2 .given .1)) ∙ j .judge .ensures))
+    (sym (ap saidByJudge (c .before .refusal2 .given .1)) ∙ j .judge .ensures))
     refl refl
 
 build-all-requires : tie.Need-build-all-requires
@@ -59,7 +60,7 @@ build-all-requires c κs =
     let keys = s .args .keys .now in
     let b = s .args .b in
     let passed : fullJudged keys b (stores s) ≡ taken = judged-by keys b (sizesOf (stores s)) (named j)
-    (sym (ap saidByBuild (t .enum-told .given .1)) ∙ j .judge .ensures) in
+    (sym (ap saidByJudge (t .enum-told .given .1)) ∙ j .judge .ensures) in
     record {
       judged = passed;
       table = no-fall-table keys (λ i l. keys-known (lengths j) .shared-slice-known .given i .fits)

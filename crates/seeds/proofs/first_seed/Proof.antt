@@ -5,8 +5,8 @@ use borrow.Author.Count.{below-more}
 use borrow.Author.Needs.{needs}
 use native.Mathlib.Omega.{arith}
 use Rattle.seeds.specs.Seeds.{SeedJams}
-use Rattle.seeds.specs.Inner.{SeedTried, Chose}
-use Rattle.seeds.proofs.Seeding.{refused-jams, refuses-by}
+use Rattle.seeds.specs.Inner.{Jams, SeedTried, Chose}
+use Rattle.seeds.proofs.Seeding.{last-jam}
 use Rattle.seeds.proofs.first_seed.Statement.{statement}
 use Rattle.seeds.proofs.first_seed.Tie as tie
 
@@ -24,6 +24,14 @@ loop-holds c = ((λ s h. absurd (omega arith)), omega arith)
 abbrev turn : tie.After-try-seed Inv-loop μ-loop → tie.At-loop Inv-loop μ-loop
 turn t = t .before .before .before .before .before .before
 
+-- where it jammed
+jam : (z : tie.After-size Inv-loop μ-loop) → let t = z .before .before in
+    let a = turn t .before .before .args in
+    let g = z .size .given .0 in
+    Jams (a .keys .now) (a .b) (turn t .loop .seed) (g .0) (g .1 .0)
+unfolding SeedTried
+jam z = rw (z .size .given .1) at (z .before .before .try-seed .ensures)
+
 returns : tie.Need-returns Inv-loop μ-loop
 unfolding SeedTried Chose
 returns c =
@@ -34,40 +42,34 @@ returns c =
 returns-2 : tie.Need-returns-2 Inv-loop μ-loop
 unfolding SeedTried Chose
 returns-2 c =
-    let r = c .before .before .before in
-    let t = r .before .before in
-    refuses-by (λ five J. absurd (omega (arith, c .if1 .taken, c .before .number .ensures)))
-    (rw (r .refusal .given .1) at (t .try-seed .ensures))
+    let r = c .before in
+    rw (r .refusal .given .1) at (r .before .before .try-seed .ensures)
 
 returns-3 : tie.Need-returns-3 Inv-loop μ-loop
-unfolding SeedTried Chose
+unfolding Chose
 returns-3 c =
-    let r = c .before .before .before .before in
-    let t = r .before .before in
-    let l = turn t .loop in
-    refuses-by (λ five J s h. below-more _ _ (l .inv .0) J s (omega arith))
-    (rw (r .refusal .given .1) at (t .try-seed .ensures))
-
-add-seed : tie.Need-add-seed Inv-loop μ-loop
-add-seed c = omega arith
-
-loop-less : tie.Need-loop-less Inv-loop μ-loop
-loop-less c = omega arith
+    let z = c .before .before in
+    last-jam (omega (arith, c .if1 .taken)) (turn (z .before .before) .loop .inv .0) (jam z)
 
 loop-again : tie.Need-loop-again Inv-loop μ-loop
-unfolding SeedTried
 loop-again c =
-    let r = c .before .before .before .before in
-    let t = r .before .before in
-    let l = turn t .loop in
-    let a = turn t .before .before .args in
-    let jam =
-    refused-jams {J = SeedJams (a .keys .now) (a .b) (l .seed)} (rw (r .refusal .given .1) at (t .try-seed .ensures))
-    (omega (arith, c .before .if1 .left, c .before .before .number .ensures)) in
-    (below-more _ _ (l .inv .0) jam, omega arith)
+    let z = c .before .before in
+    (below-more _ _ (turn (z .before .before) .loop .inv .0) (_, (_, jam z .first)), omega arith)
 
 pub first-seed-spec : {M : Type 1} → statement M
 first-seed-spec =
     tie.close
-    (tie.spec Inv-loop μ-loop loop-holds (λ c κs. search needs) (λ c. search needs) (λ c. search needs) returns
-    (λ c κs. search needs) returns-2 returns-3 add-seed loop-less loop-again)
+    (tie.spec
+    Inv-loop
+    μ-loop
+    loop-holds
+    (λ c κs. search needs)
+    (λ c. search needs)
+    returns
+    (λ c. search needs)
+    returns-2
+    (λ c. search needs)
+    returns-3
+    (λ c. omega arith)
+    (λ c. omega arith)
+    loop-again)
