@@ -12,9 +12,8 @@ use Rattle.words.specs.Keys.{firstBits, sharedBits}
 use Rattle.words.specs.Fat.{Fattest}
 use Rattle.words.proofs.Fatness.{fattest-one}
 use Rattle.words.proofs.Sharing.{shared-iff}
-use Rattle.splits.specs.Splits.{len}
 use Rattle.basics.proofs.Bools.{by-test}
-use Rattle.walks.specs.Walk.{onPath, probeAt, accepted, descend}
+use Rattle.walks.specs.Walk.{agrees, probeAt, accepted, descend}
 use Rattle.descent.specs.Inner.{Stepped}
 use Rattle.descent.specs.declared.State.{State}
 use Rattle.walks.proofs.Paths.{probe-fattest}
@@ -30,57 +29,56 @@ share-test x k l hx hk h =
     (λ e. e ∙ sym (ne-eqb (firstBits l x) (firstBits l k)
     (λ z. omega (arith, law .1 z, leb-false l (sharedBits x k) e))))
 
--- what is not accepted, and the last test of what may be
-pub not-accepted : (T : List ℕ) (x f upper m : ℕ) → (Acceptable T x f upper m → ⊥)
-    → false ≡ accepted T x f upper m
-not-accepted T x f upper m fails =
-    by-test (accepted T x f upper m) (λ e. absurd (fails (accepted-means T x f upper m e))) sym
+-- a table, the lengths that the walk takes for its splits, and the key that is asked
+module _ (T : List ℕ) (lens : ℕ → ℕ) (x : ℕ) where
+  -- what is not accepted, and the last test of what may be
+  pub not-accepted : (f upper m : ℕ) → (Acceptable T lens x f upper m → ⊥) → false ≡ accepted T lens x f upper m
+  not-accepted f upper m fails =
+      by-test (accepted T lens x f upper m) (λ e. absurd (fails (accepted-means T lens x f upper m e))) sym
 
-pub last-test : (T : List ℕ) (x f upper m : ℕ) → 0 < m → m < length T → f ≤ len T m → len T m < upper
-    → onPath T x m ≡ accepted T x f upper m
-unfolding accepted
-last-test T x f upper m h l g s =
-    rw (le-leb 1 m h, lt-ltb m (length T) l, le-leb f (len T m) g, lt-ltb (len T m) upper s)
+  pub last-test : (f upper m : ℕ) → 0 < m → m < length T → f ≤ lens m → lens m < upper
+      → agrees T x m (lens m) ≡ accepted T lens x f upper m
+  unfolding accepted
+  last-test f upper m h l g s =
+      rw (le-leb 1 m h, lt-ltb m (length T) l, le-leb f (lens m) g, lt-ltb (lens m) upper s)
 
--- the 2-fattest number above the node's length and up to last is where the walk probes
-pub probe-is : (T : List ℕ) (node lower last f : ℕ) → lower ≡ len T node → lower < last → last ≤ 63
-    → Fattest lower last f
-    → f ≡ probeAt T node (last + 1)
-probe-is T node lower last f is h l F =
+  -- one probe, at f, where the look-up gave m
+  module _ (find : ℕ → ℕ) (node upper f m : ℕ) (e : f ≡ probeAt (lens node) upper) (e′ : m ≡ find f) where
+    pub stepped-to : (l last : ℕ) → l ≡ lens m → last + 1 ≡ upper → accepted T lens x f upper m ≡ true
+        → Stepped T lens x find node upper (record { node = m; lower = l; last = last })
+    stepped-to l last is top ok =
+        record { node-is = rw (← e, ← e′, ok); upper-is = rw (← e, ← e′, ok) top; lower-is = is }
+
+    pub stepped-under : (l last : ℕ) → l ≡ lens node → last + 1 ≡ f → accepted T lens x f upper m ≡ false
+        → Stepped T lens x find node upper (record { node = node; lower = l; last = last })
+    stepped-under l last is top ok =
+        record { node-is = rw (← e, ← e′, ok); upper-is = rw (← e, ← e′, ok) top; lower-is = is }
+
+-- the 2-fattest number above lower and up to last is where the walk probes
+pub probe-is : {lower l : ℕ} (last f : ℕ) → lower ≡ l → lower < last → last ≤ 63 → Fattest lower last f
+    → f ≡ probeAt l (last + 1)
+probe-is {lower} {l} last f is h u F =
     let e : last ≡ last + 1 - 1 = omega arith in
-    fattest-one (rw (is, e) at F) (probe-fattest T node (last + 1) (omega arith) (omega arith))
-
--- one probe, at f, where the look-up gave m
-module _ (T : List ℕ) (x : ℕ) (find : ℕ → ℕ) (node upper f m : ℕ)
-    (e : f ≡ probeAt T node upper) (e′ : m ≡ find f) where
-  pub stepped-to : (l last : ℕ) → l ≡ len T m → last + 1 ≡ upper → accepted T x f upper m ≡ true
-      → Stepped T x find node upper (record { node = m; lower = l; last = last })
-  stepped-to l last is top ok =
-      record { node-is = rw (← e, ← e′, ok); upper-is = rw (← e, ← e′, ok) top; lower-is = is }
-
-  pub stepped-under : (l last : ℕ) → l ≡ len T node → last + 1 ≡ f → accepted T x f upper m ≡ false
-      → Stepped T x find node upper (record { node = node; lower = l; last = last })
-  stepped-under l last is top ok =
-      record { node-is = rw (← e, ← e′, ok); upper-is = rw (← e, ← e′, ok) top; lower-is = is }
+    fattest-one (rw (is, e) at F) (probe-fattest l (last + 1) (omega arith) (omega arith))
 
 -- what is left of the walk from the root when so many probes are made
-pub record Going (T : List ℕ) (x : ℕ) (find : ℕ → ℕ) (root node lower upper probes : ℕ) : Type 0 where
+pub record Going (T : List ℕ) (lens : ℕ → ℕ) (x : ℕ) (find : ℕ → ℕ) (root node lower upper probes : ℕ) : Type 0 where
   pub turns : ℕ
   pub budget : probes + turns ≡ 64
-  pub is : lower ≡ len T node
+  pub is : lower ≡ lens node
   pub room : upper ≤ suc lower + turns
   pub top : upper ≤ 64
   pub pos : 0 < node
   pub small : node < length T
   pub short : lower < 64
-  pub same : descend T x find turns node upper .node ≡ descend T x find 64 root 64 .node
-  pub counted : probes + length (descend T x find turns node upper .probed) ≡ length
-      (descend T x find 64 root 64 .probed)
+  pub same : descend T lens x find turns node upper .node ≡ descend T lens x find 64 root 64 .node
+  pub counted : probes + length (descend T lens x find turns node upper .probed) ≡ length
+      (descend T lens x find 64 root 64 .probed)
 
-pub going-start : (T : List ℕ) (x : ℕ) (find : ℕ → ℕ) (root lower upper : ℕ) → lower ≡ len T root
+pub going-start : (T : List ℕ) (lens : ℕ → ℕ) (x : ℕ) (find : ℕ → ℕ) (root lower upper : ℕ) → lower ≡ lens root
     → 0 < root → root < length T → lower < 64
-    → upper ≡ 64 → Going T x find root root lower upper 0
-going-start T x find root lower upper is h l s all = record {
+    → upper ≡ 64 → Going T lens x find root root lower upper 0
+going-start T lens x find root lower upper is h l s all = record {
   turns = 64;
   budget = refl;
   is = is;
@@ -93,64 +91,64 @@ going-start T x find root lower upper is h l s all = record {
   counted = rw all (omega arith);
 }
 
-pub going-end : {T : List ℕ} {x : ℕ} {find : ℕ → ℕ} {root node lower upper probes : ℕ}
-    → Going T x find root node lower upper probes → upper ≤ suc lower
-    → (node ≡ descend T x find 64 root 64 .node) × (probes ≡ length (descend T x find 64 root 64 .probed))
-going-end {T} {x} {find} {root} {node} {lower} {upper} {probes} G h =
-    let e = descend-stops T x find (G .turns) node upper (omega (arith, G .is)) in
+pub going-end : {T : List ℕ} {lens : ℕ → ℕ} {x : ℕ} {find : ℕ → ℕ} {root node lower upper probes : ℕ}
+    → Going T lens x find root node lower upper probes → upper ≤ suc lower
+    → (node ≡ descend T lens x find 64 root 64 .node) × (probes ≡ length (descend T lens x find 64 root 64 .probed))
+going-end {T} {lens} {x} {find} {root} {node} {lower} {upper} {probes} G h =
+    let e = descend-stops T lens x find (G .turns) node upper (omega (arith, G .is)) in
     (rw e at (G .same), omega (arith, rw e at (G .counted)))
 
-module _ (T : List ℕ) (x : ℕ) (find : ℕ → ℕ) (node upper : ℕ) (s : State)
-    (h : suc (len T node) < upper) (S : Stepped T x find node upper s) where
+module _ (T : List ℕ) (lens : ℕ → ℕ) (x : ℕ) (find : ℕ → ℕ) (node upper : ℕ) (s : State)
+    (h : suc (lens node) < upper) (S : Stepped T lens x find node upper s) where
   abbrev at : ℕ
-  at = probeAt T node upper
+  at = probeAt (lens node) upper
 
-  descend-next : (k : ℕ) → let rest = descend T x find k (s .node) (s .last + 1) in
-      descend T x find (suc k) node upper ≡ record { probed = at ∷ rest .probed; node = rest .node }
+  descend-next : (k : ℕ) → let rest = descend T lens x find k (s .node) (s .last + 1) in
+      descend T lens x find (suc k) node upper ≡ record { probed = at ∷ rest .probed; node = rest .node }
   unfolding turn
-  descend-next k = rw (S .node-is, S .upper-is) (descend-goes T x find k node upper h)
+  descend-next k = rw (S .node-is, S .upper-is) (descend-goes T lens x find k node upper h)
 
   -- a probe brings the node and upper nearer to each other
-  nearer : (k : ℕ) → upper ≤ suc (len T node) + suc k → upper ≤ 64 → 0 < node → node < length T
-      → len T node < 64
-      → (s .last + 1 ≤ suc (len T (s .node)) + k) × (s .last + 1 ≤ 64) × (0 < s .node) × (s .node < length T)
-      × (len T (s .node) < 64)
+  nearer : (k : ℕ) → upper ≤ suc (lens node) + suc k → upper ≤ 64 → 0 < node → node < length T
+      → lens node < 64
+      → (s .last + 1 ≤ suc (lens (s .node)) + k) × (s .last + 1 ≤ 64) × (0 < s .node) × (s .node < length T)
+      × (lens (s .node) < 64)
   nearer k r t p l u =
-      let F = probe-fattest T node upper h t in
-      let lo : len T node < at = F .above in
+      let F = probe-fattest (lens node) upper h t in
+      let lo : lens node < at = F .above in
       let hi : at ≤ upper - 1 = F .within in
-      by-test (accepted T x at upper (find at))
+      by-test (accepted T lens x at upper (find at))
       (λ ok.
-      let K = accepted-means T x at upper (find at) ok in
+      let K = accepted-means T lens x at upper (find at) ok in
       let n : s .node ≡ find at = S .node-is ∙ (rw ok) in
       let v : s .last + 1 ≡ upper = S .upper-is ∙ (rw ok) in
-      let reach : at ≤ len T (find at) = K .reach in
-      let less : len T (find at) < upper = K .short in
-      rw (n, v) (omega arith, t, K .path .pos, K .path .small, omega arith))
+      let reach : at ≤ lens (find at) = K .reach in
+      let less : lens (find at) < upper = K .short in
+      rw (n, v) (omega arith, t, K .pos, K .small, omega arith))
       (λ ok.
       let n : s .node ≡ node = S .node-is ∙ (rw ok) in
       let v : s .last + 1 ≡ at = S .upper-is ∙ (rw ok) in
       rw (n, v) (omega arith, omega arith, p, l, u))
 
-pub going-next : {T : List ℕ} {x : ℕ} {find : ℕ → ℕ} {root node lower upper probes : ℕ} (s : State)
-    → Going T x find root node lower upper probes
-    → suc lower < upper → Stepped T x find node upper s
-    → Going T x find root (s .node) (s .lower) (s .last + 1) (probes + 1)
-going-next {T} {x} {find} {root} {node} {lower} {upper} {probes} s G h S =
+pub going-next : {T : List ℕ} {lens : ℕ → ℕ} {x : ℕ} {find : ℕ → ℕ} {root node lower upper probes : ℕ} (s : State)
+    → Going T lens x find root node lower upper probes
+    → suc lower < upper → Stepped T lens x find node upper s
+    → Going T lens x find root (s .node) (s .lower) (s .last + 1) (probes + 1)
+going-next {T} {lens} {x} {find} {root} {node} {lower} {upper} {probes} s G h S =
     from (G .turns) (G .budget) (G .room) (G .same) (G .counted)
   where
-    wide : suc (len T node) < upper
+    wide : suc (lens node) < upper
     wide = omega (arith, G .is)
 
     from : (turns : ℕ) → probes + turns ≡ 64 → upper ≤ suc lower + turns
-        → descend T x find turns node upper .node ≡ descend T x find 64 root 64 .node
-        → probes + length (descend T x find turns node upper .probed) ≡ length (descend T x find 64 root 64 .probed)
-        → Going T x find root (s .node) (s .lower) (s .last + 1) (probes + 1)
+        → descend T lens x find turns node upper .node ≡ descend T lens x find 64 root 64 .node
+        → probes + length (descend T lens x find turns node upper .probed) ≡ length (descend T lens x find 64 root 64 .probed)
+        → Going T lens x find root (s .node) (s .lower) (s .last + 1) (probes + 1)
     from zero b r n c = absurd (omega arith)
     from (suc k) b r n c =
-        let N = nearer T x find node upper s wide S k (omega (arith, G .is)) (G .top) (G .pos) (G .small)
+        let N = nearer T lens x find node upper s wide S k (omega (arith, G .is)) (G .top) (G .pos) (G .small)
         (omega (arith, G .is, G .short)) in
-        let e = descend-next T x find node upper s wide S k in
+        let e = descend-next T lens x find node upper s wide S k in
         record {
           turns = k;
           budget = omega arith;

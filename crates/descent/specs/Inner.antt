@@ -8,7 +8,6 @@ use Rattle.words.specs.Keys.{prefixItem}
 use Rattle.cells.specs.Cells.{cellCount, mapValue}
 use Rattle.tables.specs.Delimiters.{delimiters}
 use Rattle.tables.specs.Lengths.{handleCount}
-use Rattle.splits.specs.Splits.{len}
 use Rattle.splits.specs.Inner.{SplitOf, CountOf}
 use Rattle.walks.specs.Walk.{probeAt, accepted, descend}
 use Rattle.descent.specs.declared.State.{State}
@@ -25,22 +24,24 @@ pub record Lent (b : ℕ) (keys : List ℕ) (n : ℕ) (handles : List ℕ) : Typ
   pub cells : cellCount (n - 2) ≤ length handles
 
 -- the node of a walk is a split, and lower its length
-pub record Node (b : ℕ) (keys : List ℕ) (node lower : ℕ) : Type 0 where
+pub record Node (b : ℕ) (keys : List ℕ) (lens : ℕ → ℕ) (node lower : ℕ) : Type 0 where
   pub split : SplitOf b keys node
-  pub is : lower ≡ len (delimiters b keys) node
+  pub is : lower ≡ lens node
   pub short : lower < 64
 
 -- the state after one probe from a node below upper, where last is upper less 1
-pub record Stepped (T : List ℕ) (x : ℕ) (find : ℕ → ℕ) (node upper : ℕ) (s : State) : Type 0 where
-  pub node-is : let f = probeAt T node upper in s .node ≡ cond (accepted T x f upper (find f)) (find f) node
-  pub upper-is : let f = probeAt T node upper in s .last + 1 ≡ cond (accepted T x f upper (find f)) upper f
-  pub lower-is : s .lower ≡ len T (s .node)
+pub record Stepped (T : List ℕ) (lens : ℕ → ℕ) (x : ℕ) (find : ℕ → ℕ) (node upper : ℕ) (s : State) : Type 0 where
+  pub node-is : let f = probeAt (lens node) upper in
+      s .node ≡ cond (accepted T lens x f upper (find f)) (find f) node
+  pub upper-is : let f = probeAt (lens node) upper in
+      s .last + 1 ≡ cond (accepted T lens x f upper (find f)) upper f
+  pub lower-is : s .lower ≡ lens (s .node)
 
 -- where the probes from a root end
-pub record Reached (T : List ℕ) (x : ℕ) (find : ℕ → ℕ) (root : ℕ) (d : Descended) : Type 0 where
-  pub node-is : d .node ≡ descend T x find 64 root 64 .node
-  pub probes-is : d .probes ≡ length (descend T x find 64 root 64 .probed)
+pub record Reached (T : List ℕ) (lens : ℕ → ℕ) (x : ℕ) (find : ℕ → ℕ) (root : ℕ) (d : Descended) : Type 0 where
+  pub node-is : d .node ≡ descend T lens x find 64 root 64 .node
+  pub probes-is : d .probes ≡ length (descend T lens x find 64 root 64 .probed)
   pub pos : 0 < d .node
   pub small : d .node < length T
-  pub lower-is : d .lower ≡ len T (d .node)
+  pub lower-is : d .lower ≡ lens (d .node)
   pub short : d .lower < 64

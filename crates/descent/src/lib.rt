@@ -43,7 +43,8 @@ pub fn on_path(keys: &[u64], b: usize, x: u64, m: usize, l: u32) -> bool
 // Whether the walk goes to m, which map 3 gave for the first f bits of x.
 fn accepts(keys: &[u64], b: usize, n: usize, x: u64, f: u32, last: u32, m: usize) -> bool
     requires { ⌜ CountOf b (now keys) n × (0 < n) ⌝ }
-    ensures { λ r. ⌜ r ≡ accepted (delimiters b (now (keys .entry))) x f (last + 1) m ⌝ }
+    ensures { λ r. ⌜ r ≡ accepted (delimiters b (now (keys .entry))) (len (delimiters b (now (keys .entry)))) x f
+        (last + 1) m ⌝ }
 {
     // 1 <= m < n in one comparison: 0 wraps around to the largest number.
     if std::num::wrapping_sub_usize(m, 1) >= n - 1 {
@@ -79,9 +80,9 @@ fn probe(
     lower: u32,
     last: u32,
 ) -> State
-    requires { ⌜ Lent b (now keys) n (now handles) × Node b (now keys) node lower × (lower < last) ×
+    requires { ⌜ Lent b (now keys) n (now handles) × Node b (now keys) (len (delimiters b (now keys))) node lower × (lower < last) ×
         (last ≤ 63) ⌝ }
-    ensures { λ s. ⌜ Stepped (delimiters b (now (keys .entry))) x
+    ensures { λ s. ⌜ Stepped (delimiters b (now (keys .entry))) (len (delimiters b (now (keys .entry)))) x
         (handleValue b (now (keys .entry)) (now (handles .entry)) seed3 x) node (last + 1) s ⌝ }
 {
     let f = probe_length(lower, last);
@@ -111,8 +112,8 @@ pub fn descend(
     root: usize,
     l: u32,
 ) -> Descended
-    requires { ⌜ Lent b (now keys) n (now handles) × Node b (now keys) root l ⌝ }
-    ensures { λ d. ⌜ Reached (delimiters b (now (keys .entry))) x
+    requires { ⌜ Lent b (now keys) n (now handles) × Node b (now keys) (len (delimiters b (now keys))) root l ⌝ }
+    ensures { λ d. ⌜ Reached (delimiters b (now (keys .entry))) (len (delimiters b (now (keys .entry)))) x
         (handleValue b (now (keys .entry)) (now (handles .entry)) seed3 x) root d ⌝ }
 {
     let mut node = root;

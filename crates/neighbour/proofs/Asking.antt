@@ -15,7 +15,7 @@ use Rattle.refusals.proofs.Naming.{refusal-told}
 use Rattle.cells.specs.Cells.{mapValue}
 use Rattle.tables.specs.Tables.{mostKeys, keyAt, Table, smaller, sharedByAll}
 use Rattle.tables.specs.Lengths.{handleCount}
-use Rattle.splits.specs.Splits.{handleItem, handleSplit, leftEntry, rightEntry, leftStore, rightStore}
+use Rattle.splits.specs.Splits.{len, handleItem, handleSplit, leftEntry, rightEntry, leftStore, rightStore}
 use Rattle.basics.proofs.Bools.{both, differ}
 use Rattle.tables.proofs.Rising.{keys-rise}
 use Rattle.tables.proofs.Delimiting.{delimiters-one}
@@ -84,9 +84,9 @@ path-probes T t x =
     let ls = leftEntry T in
     let rs = rightEntry T in
     by-size (length T)
-    (λ e. rw (walk-none T x find ls rs e) (omega arith))
-    (λ e. rw (walk-one T x find ls rs e) (omega arith))
-    (λ two. rw (root-shared T t two) (rw (left-root T) at (walk-probes T x find ls rs)))
+    (λ e. rw (walk-none T x find ls rs (len T) e) (omega arith))
+    (λ e. rw (walk-one T x find ls rs (len T) e) (omega arith))
+    (λ two. rw (root-shared T t two) (rw (left-root T) at (walk-probes T x find ls rs (len T))))
 
 -- over what an accepted build leaves
 module _ (T : List ℕ) (t : Table T) (handles lefts rights : List ℕ) (seed x : ℕ)
@@ -151,7 +151,7 @@ module _ (c p : ℕ) (s : Bool) where
   pub walk-says-six : (T handles lefts rights : List ℕ) (seed x : ℕ)
       → walkSays T handles lefts rights seed x ≡ place c p s → p ≤ 6
   unfolding walkSays storeWalk
-  walk-says-six T handles lefts rights seed x e = rw (told-probes T x _ _ e) (walk-six T x _ _ _)
+  walk-says-six T handles lefts rights seed x e = rw (told-probes T x _ _ e) (walk-six T x _ _ _ _)
 
   past : (t : Bool) (n k : ℕ) (rest : NeighbourSaid) → cond t (refused n k) rest ≡ place c p s
       → rest ≡ place c p s

@@ -8,7 +8,6 @@ use lib.Dec.{leb, ltb}
 use lib.ListN.{length}
 use Rattle.words.specs.Keys.{bitAt}
 use Rattle.tables.specs.Tables.{keyAt}
-use Rattle.splits.specs.Splits.{len}
 use Rattle.basics.proofs.Bools.{both, by-test}
 use Rattle.walks.specs.Walk.{Answer, before, spoiled, decide}
 use Rattle.places.specs.Said.{NeighbourSaid, told}
@@ -17,8 +16,8 @@ use Rattle.places.specs.Said.{NeighbourSaid, told}
 pub record Compared (x k lo hi : ℕ) (d : Answer) : Type 0 where
   pub is : d ≡ before (cond (leb x k) lo hi)
 
-module _ (T : List ℕ) (x a m b : ℕ) where
-  pub decide-spoiled : (a < m → m < b → b ≤ length T → ⊥) → decide T x a m b ≡ spoiled
+module _ (T : List ℕ) (x lower a m b : ℕ) where
+  pub decide-spoiled : (a < m → m < b → b ≤ length T → ⊥) → decide T x lower a m b ≡ spoiled
   unfolding decide
   decide-spoiled fails =
       by-test (ltb a m && (ltb m b && leb b (length T)))
@@ -28,16 +27,16 @@ module _ (T : List ℕ) (x a m b : ℕ) where
 
   module _ (h : a < m) (g : m < b) (l : b ≤ length T) where
     -- bit `lower` of x is 0: x is compared with key a
-    pub decide-zero : bitAt (len T m) x ≡ 0 → Compared x (keyAt T a) a m (decide T x a m b)
+    pub decide-zero : bitAt lower x ≡ 0 → Compared x (keyAt T a) a m (decide T x lower a m b)
     unfolding decide
     decide-zero e =
-        record { is = rw (lt-ltb a m h, lt-ltb m b g, le-leb b (length T) l, eq-eqb (bitAt (len T m) x) 0 e) }
+        record { is = rw (lt-ltb a m h, lt-ltb m b g, le-leb b (length T) l, eq-eqb (bitAt lower x) 0 e) }
 
     -- it is 1: with key m
-    pub decide-one : (bitAt (len T m) x ≡ 0 → ⊥) → Compared x (keyAt T m) m b (decide T x a m b)
+    pub decide-one : (bitAt lower x ≡ 0 → ⊥) → Compared x (keyAt T m) m b (decide T x lower a m b)
     unfolding decide
     decide-one e =
-        record { is = rw (lt-ltb a m h, lt-ltb m b g, le-leb b (length T) l, ne-eqb (bitAt (len T m) x) 0 e) }
+        record { is = rw (lt-ltb a m h, lt-ltb m b g, le-leb b (length T) l, ne-eqb (bitAt lower x) 0 e) }
 
 -- what is said after the comparison
 module _ (T : List ℕ) (probes : ℕ) {x k lo hi : ℕ} {d : Answer} {said : NeighbourSaid}

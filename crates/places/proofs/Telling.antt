@@ -11,7 +11,7 @@ use Rattle.cells.specs.Cells.{mapValue}
 use Rattle.tables.specs.Tables.{keyAt}
 use Rattle.tables.specs.Lengths.{handleCount}
 use Rattle.splits.specs.Splits.{len}
-use Rattle.walks.specs.Walk.{onPath, descend, before, spoiled, Walk, decide, walk, storeWalk}
+use Rattle.walks.specs.Walk.{agrees, descend, before, spoiled, Walk, decide, walk, storeWalk}
 use Rattle.places.specs.Said.{NeighbourSaid, place, refused, told, walkSays}
 use Rattle.walks.proofs.Answering.{walk-none, walk-one, walk-off, walk-on, walk-bad, halt}
 
@@ -39,36 +39,39 @@ module _ (T handles lefts rights : List ℕ) (seed x : ℕ) where
   abbrev rs : ℕ → ℕ
   rs m = getD rights m 0
 
-  from : (w : Walk) → walk T x look ls rs ≡ w → told T x (length (w .probed)) (w .answer) ≡ says
+  abbrev lens : ℕ → ℕ
+  lens = len T
+
+  from : (w : Walk) → walk T x look ls rs lens ≡ w → told T x (length (w .probed)) (w .answer) ≡ says
   unfolding walkSays storeWalk
   from w e = rw e
 
   pub says-none : length T ≡ 0 → told T x 0 (before 0) ≡ says
-  says-none e = from (halt 0 (before 0)) (walk-none T x look ls rs e)
+  says-none e = from (halt 0 (before 0)) (walk-none T x look ls rs lens e)
 
   pub says-one-low : length T ≡ 1 → x ≤ keyAt T 0 → told T x 0 (before 0) ≡ says
-  says-one-low e h = from (halt 0 (before 0)) (walk-one T x look ls rs e ∙ (rw (le-leb x (keyAt T 0) h)))
+  says-one-low e h = from (halt 0 (before 0)) (walk-one T x look ls rs lens e ∙ (rw (le-leb x (keyAt T 0) h)))
 
   pub says-one-high : length T ≡ 1 → keyAt T 0 < x → told T x 0 (before 1) ≡ says
-  says-one-high e h = from (halt 0 (before 1)) (walk-one T x look ls rs e ∙ (rw (lt-leb x (keyAt T 0) h)))
+  says-one-high e h = from (halt 0 (before 1)) (walk-one T x look ls rs lens e ∙ (rw (lt-leb x (keyAt T 0) h)))
 
   module _ (two : 2 ≤ length T) (r : ℕ) (e : r ≡ getD lefts 0 0) where
-    pub says-bad : ((0 < r) × (r < length T) × (len T r ≤ 63) → ⊥) → refused 6 0 ≡ says
+    pub says-bad : ((0 < r) × (r < length T) × (lens r ≤ 63) → ⊥) → refused 6 0 ≡ says
     unfolding told
-    says-bad fails = from (halt r spoiled) (walk-bad T x look ls rs two r (sym e) fails)
+    says-bad fails = from (halt r spoiled) (walk-bad T x look ls rs lens two r (sym e) fails)
 
-    module _ (ok : (0 < r) × (r < length T) × (len T r ≤ 63)) where
-      pub says-low : onPath T x r ≡ false → x ≤ keyAt T r → told T x 0 (before 0) ≡ says
+    module _ (ok : (0 < r) × (r < length T) × (lens r ≤ 63)) where
+      pub says-low : agrees T x r (lens r) ≡ false → x ≤ keyAt T r → told T x 0 (before 0) ≡ says
       says-low off h =
-          from (halt r (before 0)) (walk-off T x look ls rs two r (sym e) ok off ∙ (rw (le-leb x (keyAt T r) h)))
+          from (halt r (before 0)) (walk-off T x look ls rs lens two r (sym e) ok off ∙ (rw (le-leb x (keyAt T r) h)))
 
-      pub says-high : onPath T x r ≡ false → keyAt T r < x → (c : ℕ) → c ≡ length T
+      pub says-high : agrees T x r (lens r) ≡ false → keyAt T r < x → (c : ℕ) → c ≡ length T
           → told T x 0 (before c) ≡ says
       says-high off h c is =
           rw is (from (halt r (before (length T)))
-          (walk-off T x look ls rs two r (sym e) ok off ∙ (rw (lt-leb x (keyAt T r) h))))
+          (walk-off T x look ls rs lens two r (sym e) ok off ∙ (rw (lt-leb x (keyAt T r) h))))
 
-      pub says-walk : onPath T x r ≡ true → (node probes a b : ℕ) → node ≡ descend T x look 64 r 64 .node
-          → probes ≡ length (descend T x look 64 r 64 .probed) → a ≡ getD lefts node 0
-          → b ≡ getD rights node 0 → told T x probes (decide T x a node b) ≡ says
-      says-walk on node probes a b n p u v = rw (u, v, p, n) (from _ (walk-on T x look ls rs two r (sym e) ok on))
+      pub says-walk : agrees T x r (lens r) ≡ true → (node lower probes a b : ℕ) → node ≡ descend T lens x look 64 r 64 .node
+          → probes ≡ length (descend T lens x look 64 r 64 .probed) → lower ≡ lens node
+          → a ≡ getD lefts node 0 → b ≡ getD rights node 0 → told T x probes (decide T x lower a node b) ≡ says
+      says-walk on node lower probes a b n p l u v = rw (l, u, v, p, n) (from _ (walk-on T x look ls rs lens two r (sym e) ok on))

@@ -7,7 +7,6 @@ ghost use mathlib.Core.Path.{_≡_};
 ghost use Prim.Native.Nat.{_≤_, _<_};
 ghost use lib.ListN.{length};
 ghost use Rattle.tables.specs.Delimiters.{delimiters};
-ghost use Rattle.splits.specs.Splits.{len};
 ghost use Rattle.splits.specs.Inner.{SplitOf, CountOf};
 ghost use Rattle.walks.specs.Walk.{before, decide};
 ghost use Rattle.descent.specs.Inner.{Lent};
@@ -65,10 +64,9 @@ fn decide(
     end: usize,
     l: u32,
 ) -> NeighbourAnswer
-    requires { ⌜ CountOf b (now keys) n × SplitOf b (now keys) m × (l ≡ len (delimiters b (now keys)) m) ×
-        (l < 64) ⌝ }
+    requires { ⌜ CountOf b (now keys) n × SplitOf b (now keys) m × (l < 64) ⌝ }
     ensures { λ r. ⌜ saidByNeighbour r ≡ told (delimiters b (now (keys .entry))) x probes
-        (decide (delimiters b (now (keys .entry))) x first m end) ⌝ }
+        (decide (delimiters b (now (keys .entry))) x l first m end) ⌝ }
 {
     if first >= m {
         return NeighbourAnswer::Refused(Refusal::Spoiled);

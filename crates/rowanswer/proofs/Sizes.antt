@@ -45,7 +45,7 @@ narrow false c h = tt
 
 few-probes : (keys : List ℕ) (x : ℕ) → probesOf keys x ≤ 6
 unfolding pathWalk
-few-probes keys x = walk-six keys x _ _ _
+few-probes keys x = walk-six keys x _ _ _ _
 
 module _ (keys : List ℕ) (t : Table keys) (few : length keys ≤ 2048) where
   ask-most : (x : ℕ) → length (askLines keys x) ≤ 103

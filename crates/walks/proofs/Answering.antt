@@ -18,7 +18,7 @@ use Rattle.splits.specs.Splits.{len, root, leftEntry, rightEntry}
 use Rattle.basics.proofs.Bools.{both, by-test}
 use Rattle.splits.proofs.Rows.{less-by, len-lt}
 use Rattle.splits.proofs.Parents.{root-pos, root-lt, root-all, left-root, left-split, right-split}
-use Rattle.walks.specs.Walk.{onPath, Descent, descend, Answer, before, spoiled}
+use Rattle.walks.specs.Walk.{agrees, onPath, Descent, descend, Answer, before, spoiled}
 use Rattle.walks.specs.Walk.{Walk, decide, walk, pathWalk, storeWalk, Stored}
 use Rattle.walks.proofs.Paths.{OnPath}
 use Rattle.walks.proofs.Descending.{onward-split, Deepest, descend-path, descend-deep, descend-probes}
@@ -27,78 +27,82 @@ use Rattle.walks.proofs.Deciding.{decides, smaller-low, smaller-high, s
 abbrev pub halt : ℕ → Answer → Walk
 halt m a = record { probed = []; node = m; answer = a }
 
-abbrev pub ended : List ℕ → ℕ → (lefts rights : ℕ → ℕ) → Descent → Walk
-ended T x lefts rights d =
-    record { probed = d .probed; node = d .node; answer = decide T x (lefts (d .node)) (d .node) (rights (d .node)) }
+abbrev pub ended : List ℕ → ℕ → (lefts rights lens : ℕ → ℕ) → Descent → Walk
+ended T x lefts rights lens d =
+    let m = d .node in
+    record { probed = d .probed; node = m; answer = decide T x (lens m) (lefts m) m (rights m) }
 
 -- the walk case by case
-module _ (T : List ℕ) (x : ℕ) (find lefts rights : ℕ → ℕ) where
-  pub walk-none : length T ≡ 0 → walk T x find lefts rights ≡ halt 0 (before 0)
+module _ (T : List ℕ) (x : ℕ) (find lefts rights lens : ℕ → ℕ) where
+  abbrev walked : Walk
+  walked = walk T x find lefts rights lens
+
+  pub walk-none : length T ≡ 0 → walked ≡ halt 0 (before 0)
   unfolding walk
   walk-none e = rw e
 
-  pub walk-one : length T ≡ 1 → walk T x find lefts rights ≡ halt 0 (before (cond (leb x (keyAt T 0)) 0 1))
+  pub walk-one : length T ≡ 1 → walked ≡ halt 0 (before (cond (leb x (keyAt T 0)) 0 1))
   unfolding walk
   walk-one e = rw e
 
   -- the root split is one
   abbrev pub Rooted : ℕ → Type 0
-  Rooted r = (0 < r) × (r < length T) × (len T r ≤ 63)
+  Rooted r = (0 < r) × (r < length T) × (lens r ≤ 63)
 
-  root-test : (r : ℕ) → Rooted r → leb 1 r && (ltb r (length T) && leb (len T r) 63) ≡ true
-  root-test r R = rw (le-leb 1 r (R .0), lt-ltb r (length T) (R .1), le-leb (len T r) 63 (R .2))
+  root-test : (r : ℕ) → Rooted r → leb 1 r && (ltb r (length T) && leb (lens r) 63) ≡ true
+  root-test r R = rw (le-leb 1 r (R .0), lt-ltb r (length T) (R .1), le-leb (lens r) 63 (R .2))
 
   -- two keys or more
   module _ (h : 2 ≤ length T) (r : ℕ) (e : lefts 0 ≡ r) where
-    walk-two : walk T x find lefts rights
-        ≡ cond (leb 1 r && (ltb r (length T) && leb (len T r) 63))
-        (cond (onPath T x r) (ended T x lefts rights (descend T x find 64 r 64))
+    walk-two : walked
+        ≡ cond (leb 1 r && (ltb r (length T) && leb (lens r) 63))
+        (cond (agrees T x r (lens r)) (ended T x lefts rights lens (descend T lens x find 64 r 64))
         (halt r (before (cond (leb x (keyAt T r)) 0 (length T)))))
         (halt r spoiled)
     unfolding walk
     walk-two = rw (ne-eqb (length T) 0 (λ z. omega arith), ne-eqb (length T) 1 (λ z. omega arith), e)
 
-    pub walk-off : Rooted r → onPath T x r ≡ false
-        → walk T x find lefts rights ≡ halt r (before (cond (leb x (keyAt T r)) 0 (length T)))
+    pub walk-off : Rooted r → agrees T x r (lens r) ≡ false
+        → walked ≡ halt r (before (cond (leb x (keyAt T r)) 0 (length T)))
     walk-off R off = walk-two ∙ (rw (root-test r R, off))
 
-    pub walk-on : Rooted r → onPath T x r ≡ true
-        → walk T x find lefts rights ≡ ended T x lefts rights (descend T x find 64 r 64)
+    pub walk-on : Rooted r → agrees T x r (lens r) ≡ true
+        → walked ≡ ended T x lefts rights lens (descend T lens x find 64 r 64)
     walk-on R on = walk-two ∙ (rw (root-test r R, on))
 
-    pub walk-bad : (Rooted r → ⊥) → walk T x find lefts rights ≡ halt r spoiled
+    pub walk-bad : (Rooted r → ⊥) → walked ≡ halt r spoiled
     walk-bad fails =
         walk-two
-        ∙ by-test (leb 1 r && (ltb r (length T) && leb (len T r) 63))
-        (λ k. let p = both (leb 1 r) _ k in let q = both (ltb r (length T)) (leb (len T r) 63) (p .1) in
-        absurd (fails (leb-true 1 r (p .0), ltb-true r (length T) (q .0), leb-true (len T r) 63 (q .1))))
+        ∙ by-test (leb 1 r && (ltb r (length T) && leb (lens r) 63))
+        (λ k. let p = both (leb 1 r) _ k in let q = both (ltb r (length T)) (leb (lens r) 63) (p .1) in
+        absurd (fails (leb-true 1 r (p .0), ltb-true r (length T) (q .0), leb-true (lens r) 63 (q .1))))
         (λ k. rw k)
 
   -- a walk makes no probes, or those from its root on
-  few-probes : (k : ℕ) → (len T (lefts 0) ≤ 63 → length (descend T x find 64 (lefts 0) 64 .probed) ≤ k)
-      → length (walk T x find lefts rights .probed) ≤ k
+  few-probes : (k : ℕ) → (lens (lefts 0) ≤ 63 → length (descend T lens x find 64 (lefts 0) 64 .probed) ≤ k)
+      → length (walked .probed) ≤ k
   unfolding walk
   few-probes k few =
       let r = lefts 0 in
       by-test (eqb (length T) 0) (λ e. rw e zero-le)
       (λ e. rw e (by-test (eqb (length T) 1) (λ e₁. rw e₁ zero-le)
       (λ e₁. rw e₁ (by-test (leb 1 r)
-      (λ e₂. rw e₂ (by-test (ltb r (length T)) (λ e₃. rw e₃ (by-test (leb (len T r) 63)
-      (λ e₄. rw e₄ (by-test (onPath T x r) (λ e₅. rw e₅ (few (leb-true (len T r) 63 e₄)))
+      (λ e₂. rw e₂ (by-test (ltb r (length T)) (λ e₃. rw e₃ (by-test (leb (lens r) 63)
+      (λ e₄. rw e₄ (by-test (agrees T x r (lens r)) (λ e₅. rw e₅ (few (leb-true (lens r) 63 e₄)))
       (λ e₅. rw e₅ zero-le)))
       (λ e₄. rw e₄ zero-le))) (λ e₃. rw e₃ zero-le))) (λ e₂. rw e₂ zero-le)))))
 
-  bound : len T (lefts 0) ≤ 63
-      → let made = length (descend T x find 64 (lefts 0) 64 .probed) in let most =
-      binaryDigits (63 - len T (lefts 0)) in (made ≤ most) × (most ≤ 6)
-  bound h = probes-from (len T (lefts 0)) (omega arith) (descend-probes T x find 64 (lefts 0) 64 (omega arith))
+  bound : lens (lefts 0) ≤ 63
+      → let made = length (descend T lens x find 64 (lefts 0) 64 .probed) in let most =
+      binaryDigits (63 - lens (lefts 0)) in (made ≤ most) × (most ≤ 6)
+  bound h = probes-from (lens (lefts 0)) (omega arith) (descend-probes T lens x find 64 (lefts 0) 64 (omega arith))
 
-  -- W5: over any stores the probes are no more than 63 - len of the root split has binary digits
-  pub walk-probes : length (walk T x find lefts rights .probed) ≤ binaryDigits (63 - len T (lefts 0))
-  walk-probes = few-probes (binaryDigits (63 - len T (lefts 0))) (λ h. bound h .0)
+  -- W5: over any stores the probes are no more than 63 less the root's length has binary digits
+  pub walk-probes : length (walked .probed) ≤ binaryDigits (63 - lens (lefts 0))
+  walk-probes = few-probes (binaryDigits (63 - lens (lefts 0))) (λ h. bound h .0)
 
   -- and six at most
-  pub walk-six : length (walk T x find lefts rights .probed) ≤ 6
+  pub walk-six : length (walked .probed) ≤ 6
   walk-six = few-probes 6 (λ h. le-trans (bound h .0) (bound h .1))
 
 -- a table has no rows, one, or more
@@ -119,7 +123,7 @@ module _ (T : List ℕ) (t : Table T) (x : ℕ) where
 
   -- the walk over the table ends at the deepest split on x's path
   end-deepest : 2 ≤ length T → onPath T x (root T) ≡ true
-      → Deepest T x (descend T x (onward-split T x) 64 (root T) 64 .node)
+      → Deepest T x (descend T (len T) x (onward-split T x) 64 (root T) 64 .node)
   end-deepest h e =
       descend-deep T t x 64 (root T) 64 (root-path h e) (le-refl 64) (λ k P. len-lt T t k (P .pos) (P .small))
       (omega arith)
@@ -164,16 +168,16 @@ module _ (T : List ℕ) (t : Table T) (x : ℕ) where
       let ls = leftEntry T in
       let rs = rightEntry T in
       by-size (length T)
-      (λ e. rw (walk-none T x find ls rs e)
+      (λ e. rw (walk-none T x find ls rs (len T) e)
       (let none : 0 ≡ smaller T x = omega (arith, smaller-most T t x) in ap before none))
-      (λ e. rw (walk-one T x find ls rs e) (ap before (one-row e)))
+      (λ e. rw (walk-one T x find ls rs (len T) e) (ap before (one-row e)))
       (λ h. by-test (onPath T x (root T))
       (λ on.
       let D = end-deepest h on in
-      let m = descend T x find 64 (root T) 64 .node in
-      rw (walk-on T x find ls rs h (root T) (left-root T) (rooted h) on)
+      let m = descend T (len T) x find 64 (root T) 64 .node in
+      rw (walk-on T x find ls rs (len T) h (root T) (left-root T) (rooted h) on)
       (rw (left-split T m (D .path .pos), right-split T m (D .path .pos)) (decides T t x m D)))
-      (λ off. rw (walk-off T x find ls rs h (root T) (left-root T) (rooted h) off) (ap before (off-root h off))))
+      (λ off. rw (walk-off T x find ls rs (len T) h (root T) (left-root T) (rooted h) off) (ap before (off-root h off))))
 
   -- W3: over what an accepted build leaves the walk is that over the table
   pub stored-walk : (lookUp : ℕ → ℕ) (lefts rights : List ℕ) → Stored T lookUp lefts rights
@@ -187,19 +191,19 @@ module _ (T : List ℕ) (t : Table T) (x : ℕ) where
       let ls = leftEntry T in
       let rs = rightEntry T in
       by-size (length T)
-      (λ e. walk-none T x look lefts′ rights′ e ∙ sym (walk-none T x find ls rs e))
-      (λ e. walk-one T x look lefts′ rights′ e ∙ sym (walk-one T x find ls rs e))
+      (λ e. walk-none T x look lefts′ rights′ (len T) e ∙ sym (walk-none T x find ls rs (len T) e))
+      (λ e. walk-one T x look lefts′ rights′ (len T) e ∙ sym (walk-one T x find ls rs (len T) e))
       (λ h.
       let at-root : lefts′ 0 ≡ root T = S .lefts-are 0 (omega arith) ∙ left-root T in
       by-test (onPath T x (root T))
       (λ on.
       let D = end-deepest h on in
-      let d = descend T x find 64 (root T) 64 in
-      let same : descend T x look 64 (root T) 64 ≡ d =
+      let d = descend T (len T) x find 64 (root T) 64 in
+      let same : descend T (len T) x look 64 (root T) 64 ≡ d =
       descend-path T t x lookUp (S .handles-lead) 64 (root T) 64 (root-path h on) (le-refl 64) in
       let s = D .path .small in
-      walk-on T x look lefts′ rights′ h (root T) at-root (rooted h) on
+      walk-on T x look lefts′ rights′ (len T) h (root T) at-root (rooted h) on
       ∙ (rw (same, S .lefts-are (d .node) s, S .rights-are (d .node) s))
-      ∙ sym (walk-on T x find ls rs h (root T) (left-root T) (rooted h) on))
-      (λ off. walk-off T x look lefts′ rights′ h (root T) at-root (rooted h) off
-      ∙ sym (walk-off T x find ls rs h (root T) (left-root T) (rooted h) off)))
+      ∙ sym (walk-on T x find ls rs (len T) h (root T) (left-root T) (rooted h) on))
+      (λ off. walk-off T x look lefts′ rights′ (len T) h (root T) at-root (rooted h) off
+      ∙ sym (walk-off T x find ls rs (len T) h (root T) (left-root T) (rooted h) off)))

@@ -104,7 +104,7 @@ module _ (T : List ℕ) (t : Table T) (x : ℕ) where
         let no : ¬ (c < m) = λ g. (omega (arith, smaller-high (m - 1) (omega arith) (omega (arith, small)))) in
         omega arith
 
-    pub decides : decide T x (left T m) m (right T m) ≡ before c
+    pub decides : decide T x (len T m) (left T m) m (right T m) ≡ before c
     unfolding decide
     decides =
         let a = left T m in

@@ -22,9 +22,9 @@ use Rattle.splits.proofs.Parents.{root-least, parent-left, parent-right, parent
 use Rattle.walks.specs.Walk.{onPath, probeAt, pathTo}
 
 -- the probe is the 2-fattest number strictly between
-pub probe-fattest : (T : List ℕ) (node upper : ℕ) → suc (len T node) < upper → upper ≤ 64
-    → Fattest (len T node) (upper - 1) (probeAt T node upper)
-probe-fattest T node upper h l = fattest-of (len T node) (upper - 1) (omega arith) (omega arith)
+pub probe-fattest : (lower upper : ℕ) → suc lower < upper → upper ≤ 64
+    → Fattest lower (upper - 1) (probeAt lower upper)
+probe-fattest lower upper h l = fattest-of lower (upper - 1) (omega arith) (omega arith)
 
 -- m is a split on x's path
 pub record OnPath (T : List ℕ) (x m : ℕ) : Type 0 where
@@ -187,16 +187,16 @@ module _ (T : List ℕ) (t : Table T) (x : ℕ) where
 
   -- W1: below a node, the split with the least length from the probe f on has its handle at f
   module _ (node upper v : ℕ) (N : OnPath T x node) (P : OnPath T x v) where
-    pub handle-at : let f = probeAt T node upper in suc (len T node) < upper → upper ≤ 64 → f ≤ len T v
+    pub handle-at : let f = probeAt (len T node) upper in suc (len T node) < upper → upper ≤ 64 → f ≤ len T v
         → len T v < upper
         → ((m : ℕ) → OnPath T x m → f ≤ len T m → len T v ≤ len T m)
         → (handleItem T v ≡ prefixItem x f) × (v ≡ root T → ⊥)
     unfolding handleItem handleLen
     handle-at room top reach short least =
         let lo = len T node in
-        let f = probeAt T node upper in
+        let f = probeAt (len T node) upper in
         let q = parentLen T v in
-        let F : Fattest lo (upper - 1) f = probe-fattest T node upper room top in
+        let F : Fattest lo (upper - 1) f = probe-fattest (len T node) upper room top in
         let lo-f : lo < f = F .above in
         let lo-q : lo ≤ q = parent-most v node P N (omega arith) in
         let q-f : q < f = parent-lt T v f (omega arith)

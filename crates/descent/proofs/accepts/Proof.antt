@@ -3,6 +3,7 @@ use mathlib.Core.Path.{_∙_}
 use Prim.Native.Nat.{_+_}
 use native.Mathlib.Omega.{arith}
 use Rattle.tables.specs.Delimiters.{delimiters}
+use Rattle.splits.specs.Splits.{len}
 use Rattle.descent.proofs.Steps.{not-accepted, last-test}
 use borrow.Author.Needs.{needs}
 use Rattle.descent.proofs.accepts.Statement.{statement}
@@ -11,24 +12,28 @@ use Rattle.descent.proofs.accepts.Tie as tie
 returns : tie.Need-returns
 returns c =
     let a = c .before .before .before .args in
-    not-accepted (delimiters (a .b) (a .keys .now)) (a .x) (a .f) (a .last + 1) (a .m)
-    (λ K. omega (arith, K .path .pos, K .path .small))
+    let T = delimiters (a .b) (a .keys .now) in
+    not-accepted T (len T) (a .x) (a .f) (a .last + 1) (a .m)
+    (λ K. omega (arith, K .pos, K .small))
 
 returns-2 : tie.Need-returns-2
 returns-2 c =
     let a = c .before .before .before .before .before .args in
-    not-accepted (delimiters (a .b) (a .keys .now)) (a .x) (a .f) (a .last + 1) (a .m) (λ K. omega (arith, K .reach))
+    let T = delimiters (a .b) (a .keys .now) in
+    not-accepted T (len T) (a .x) (a .f) (a .last + 1) (a .m) (λ K. omega (arith, K .reach))
 
 returns-3 : tie.Need-returns-3
 returns-3 c =
     let a = c .before .before .before .before .before .before .args in
-    not-accepted (delimiters (a .b) (a .keys .now)) (a .x) (a .f) (a .last + 1) (a .m) (λ K. omega (arith, K .short))
+    let T = delimiters (a .b) (a .keys .now) in
+    not-accepted T (len T) (a .x) (a .f) (a .last + 1) (a .m) (λ K. omega (arith, K .short))
 
 returns-4 : tie.Need-returns-4
 returns-4 c =
     let a = c .before .before .before .before .before .before .before .args in
+    let T = delimiters (a .b) (a .keys .now) in
     c .on-path .ensures
-    ∙ last-test (delimiters (a .b) (a .keys .now)) (a .x) (a .f) (a .last + 1) (a .m) (omega arith) (omega arith)
+    ∙ last-test T (len T) (a .x) (a .f) (a .last + 1) (a .m) (omega arith) (omega arith)
     (omega arith) (omega arith)
 
 pub accepts-spec : {M : Type 1} → statement M

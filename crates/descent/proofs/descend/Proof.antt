@@ -3,6 +3,7 @@
 use Prim.Native.Nat.{_+_, _-_}
 use native.Mathlib.Omega.{arith}
 use Rattle.tables.specs.Delimiters.{delimiters}
+use Rattle.splits.specs.Splits.{len}
 use Rattle.descent.specs.Inner.{handleValue}
 use Rattle.descent.proofs.Steps.{Going, going-start, going-next, going-end}
 use Rattle.descent.proofs.descend.Statement.{statement}
@@ -10,7 +11,7 @@ use Rattle.descent.proofs.descend.Tie as tie
 
 abbrev Inv-loop : tie.InvT-loop
 Inv-loop keys b n seed3 handles x root l node₀ lower₀ last₀ probes₀ node lower last probes =
-    Going (delimiters b keys) x (handleValue b keys handles seed3 x) root node lower (last + 1) probes
+    Going (delimiters b keys) (len (delimiters b keys)) x (handleValue b keys handles seed3 x) root node lower (last + 1) probes
 
 abbrev μ-loop : tie.MeasureT-loop
 μ-loop keys b n seed3 handles x root l node₀ lower₀ last₀ probes₀ node lower last probes = 64 - probes
@@ -20,7 +21,7 @@ loop-holds c =
     let s = c .before .before in
     let a = s .args in
     let N = s .pre .1 in
-    going-start (delimiters (a .b) (a .keys .now)) (a .x)
+    going-start (delimiters (a .b) (a .keys .now)) (len (delimiters (a .b) (a .keys .now))) (a .x)
     (handleValue (a .b) (a .keys .now) (a .handles .now) (a .seed3) (a .x)) (a .root) (a .l) _
     (N .is) (N .split .pos) (N .split .small) (N .short) (omega arith)
 

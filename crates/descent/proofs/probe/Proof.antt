@@ -3,6 +3,7 @@ use mathlib.Core.Path.{_≡_, refl, sym, _∙_}
 use Prim.Native.Nat.{_+_, _-_}
 use native.Mathlib.Omega.{arith}
 use Rattle.tables.specs.Delimiters.{delimiters}
+use Rattle.splits.specs.Splits.{len}
 use Rattle.walks.specs.Walk.{probeAt}
 use Rattle.descent.specs.Inner.{handleValue}
 use Rattle.walks.proofs.Descending.{accepted-means}
@@ -13,13 +14,11 @@ use Rattle.descent.proofs.probe.Tie as tie
 
 -- the probe is at the length that the walk probes
 at : (c : tie.After-look-up) → let a = c .before .before .before .before .before .before .args in
-    c .before .before .before .probe-length .result ≡ probeAt (delimiters (a .b) (a .keys .now)) (a .node)
-    (a .last + 1)
+    c .before .before .before .probe-length .result ≡ probeAt (len (delimiters (a .b) (a .keys .now)) (a .node)) (a .last + 1)
 at c =
     let s = c .before .before .before .before .before .before in
     let f = c .before .before .before .probe-length in
-    probe-is (delimiters (s .args .b) (s .args .keys .now)) (s .args .node) (s .args .lower) (s .args .last) (f .result)
-    (s .pre .1 .is) (s .pre .2) (s .pre .3) (f .ensures)
+    probe-is (s .args .last) (f .result) (s .pre .1 .is) (s .pre .2) (s .pre .3) (f .ensures)
 
 -- and map 3 says of it what the walk looks up
 found : (c : tie.After-look-up) → let a = c .before .before .before .before .before .before .args in
@@ -33,9 +32,9 @@ len-at-requires c κs =
     let a = s .args in
     let T = delimiters (a .b) (a .keys .now) in
     let ok = sym (c .before .accepts .ensures) ∙ c .if1 .taken in
-    let K = accepted-means T (a .x) (c .before .before .before .before .before .probe-length .result) (a .last + 1)
+    let K = accepted-means T (len T) (a .x) (c .before .before .before .before .before .probe-length .result) (a .last + 1)
     (c .before .before .look-up .result) ok in
-    record { bucketed = s .pre .0 .counted .bucketed; pos = K .path .pos; small = K .path .small }
+    record { bucketed = s .pre .0 .counted .bucketed; pos = K .pos; small = K .small }
 
 returns : tie.Need-returns
 returns c =
@@ -43,7 +42,7 @@ returns c =
     let a = p .before .before .before .before .before .before .args in
     let T = delimiters (a .b) (a .keys .now) in
     let ok = sym (c .before .before .accepts .ensures) ∙ c .before .if1 .taken in
-    stepped-to T (a .x) (handleValue (a .b) (a .keys .now) (a .handles .now) (a .seed3) (a .x)) (a .node) (a .last + 1)
+    stepped-to T (len T) (a .x) (handleValue (a .b) (a .keys .now) (a .handles .now) (a .seed3) (a .x)) (a .node) (a .last + 1)
     (p .before .before .before .probe-length .result) (p .look-up .result) (at p) (found p) (c .len-at .result)
     (a .last) (c .len-at .ensures) refl ok
 
@@ -54,7 +53,7 @@ returns-2 c =
     let a = s .args in
     let T = delimiters (a .b) (a .keys .now) in
     let fails = sym (c .before .accepts .ensures) ∙ c .if1 .left in
-    stepped-under T (a .x) (handleValue (a .b) (a .keys .now) (a .handles .now) (a .seed3) (a .x)) (a .node)
+    stepped-under T (len T) (a .x) (handleValue (a .b) (a .keys .now) (a .handles .now) (a .seed3) (a .x)) (a .node)
     (a .last + 1)
     (p .before .before .before .probe-length .result) (p .look-up .result) (at p) (found p) (a .lower)
     (p .before .before .before .probe-length .result - 1)

@@ -23,10 +23,10 @@ good c = (omega arith, omega arith, omega arith)
 bad : (c : tie.Start) → let a = c .args in
     let T = delimiters (a .b) (a .keys .now) in
     (a .first < a .m → a .m < a .end → a .end ≤ length T → ⊥) → refused 6 0 ≡ told T (a .x) (a .probes)
-    (decide T (a .x) (a .first) (a .m) (a .end))
+    (decide T (a .x) (a .l) (a .first) (a .m) (a .end))
 unfolding told
 bad c fails =
-    let a = c .args in rw (decide-spoiled (delimiters (a .b) (a .keys .now)) (a .x) (a .first) (a .m) (a .end) fails)
+    let a = c .args in rw (decide-spoiled (delimiters (a .b) (a .keys .now)) (a .x) (a .l) (a .first) (a .m) (a .end) fails)
 
 returns : tie.Need-returns
 unfolding saidByNeighbour
@@ -43,19 +43,17 @@ returns-3 c = bad (c .before .before .before .before) (λ h g l. omega arith)
 -- the comparison that the exit bit leads to
 zero : (c : tie.Then4) → let a = c .before .before .before .before .before .args in
     let T = delimiters (a .b) (a .keys .now) in
-    Compared (a .x) (keyAt T (a .first)) (a .first) (a .m) (decide T (a .x) (a .first) (a .m) (a .end))
+    Compared (a .x) (keyAt T (a .first)) (a .first) (a .m) (decide T (a .x) (a .l) (a .first) (a .m) (a .end))
 zero c =
-    let s = c .before .before .before .before .before in
     let g = good (c .before) in
-    decide-zero _ _ _ _ _ (g .0) (g .1) (g .2) (rw (s .pre .2) at (c .if4 .taken))
+    decide-zero _ _ _ _ _ _ (g .0) (g .1) (g .2) (c .if4 .taken)
 
 one : (c : tie.Else4) → let a = c .before .before .before .before .before .args in
     let T = delimiters (a .b) (a .keys .now) in
-    Compared (a .x) (keyAt T (a .m)) (a .m) (a .end) (decide T (a .x) (a .first) (a .m) (a .end))
+    Compared (a .x) (keyAt T (a .m)) (a .m) (a .end) (decide T (a .x) (a .l) (a .first) (a .m) (a .end))
 one c =
-    let s = c .before .before .before .before .before in
     let g = good (c .before) in
-    decide-one _ _ _ _ _ (g .0) (g .1) (g .2) (rw (s .pre .2) at (c .if4 .left))
+    decide-one _ _ _ _ _ _ (g .0) (g .1) (g .2) (c .if4 .left)
 
 returns-4 : tie.Need-returns-4
 returns-4 c = compared-low _ _ (zero (c .before .before .before)) (omega arith) (c .tell .ensures)

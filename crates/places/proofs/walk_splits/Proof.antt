@@ -52,7 +52,7 @@ decide-requires c κs =
     let d = c .before .before .descend .ensures in
     let p = c .before .before .before .before .before .before .before .before .before in
     let L = p .before .before .before .before .before .pre .0 .counted in
-    (L, record { bucketed = L .bucketed; pos = d .pos; small = d .small }, d .lower-is, d .short)
+    (L, record { bucketed = L .bucketed; pos = d .pos; small = d .small }, d .short)
 
 returns-4 : tie.Need-returns-4
 returns-4 c =
@@ -62,8 +62,8 @@ returns-4 c =
     let on = sym (t .before .on-path .ensures) ∙ t .if4 .taken in
     let d = c .before .before .before .descend .ensures in
     c .decide .ensures
-    ∙ says-walk _ _ _ _ _ _ (two p) (p .entry-at .result) (p .entry-at .ensures) (rooted e) on _ _ _ _
-    (d .node-is) (d .probes-is) (c .before .before .entry-at2 .ensures) (c .before .entry-at3 .ensures)
+    ∙ says-walk _ _ _ _ _ _ (two p) (p .entry-at .result) (p .entry-at .ensures) (rooted e) on _ _ _ _ _
+    (d .node-is) (d .probes-is) (d .lower-is) (c .before .before .entry-at2 .ensures) (c .before .entry-at3 .ensures)
 
 returns-5 : tie.Need-returns-5
 returns-5 c =
