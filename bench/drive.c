@@ -13,11 +13,13 @@
 #define MOST 32768
 #define CELLS 41295
 #define BEYOND 16
+#define STORES 6
 
 static u64 keys[MOST], asks[MOST], seeds[4]; // the seed of map m at m
 static u16 cells[2 * CELLS + BEYOND], handles[CELLS + BEYOND], left[MOST + BEYOND], right[MOST + BEYOND], work[2 * CELLS + 2 * MOST + BEYOND];
-static u16 *const store[5] = {cells, handles, left, right, work};
-static size_t named[5], lent[5]; // the named length of each store, and how much of it is lent
+static u8 lengths[MOST + BEYOND];
+static u16 *const store[STORES - 1] = {cells, handles, left, right, work}; // and the lengths
+static size_t named[STORES], lent[STORES]; // the named length of each store, and how much of it is lent
 
 // What compilers ask for.
 __attribute__((used)) void *memset(void *p, int c, size_t n) {
@@ -111,39 +113,44 @@ static void note(u64 v) { digest = (digest ^ v) * 0xBF58476D1CE4E5B9 + 1, digest
 
 static size_t cell_count(size_t t) { return 3 * (42 * t / 100 + 3); }
 static void lend(size_t n, u64 b) {
-    size_t lengths[5] = {cell_count(n) + cell_count((n + b - 1) / b), cell_count(n < 2 ? 0 : n - 2), n, n, 2 * cell_count(n) + 2 * n};
-    for (int i = 0; i < 5; i++) named[i] = lengths[i], lent[i] = lengths[i] + BEYOND;
+    size_t sizes[STORES] = {cell_count(n) + cell_count((n + b - 1) / b), cell_count(n < 2 ? 0 : n - 2), n, n, 2 * cell_count(n) + 2 * n, n};
+    for (int i = 0; i < STORES; i++) named[i] = sizes[i], lent[i] = sizes[i] + BEYOND;
 }
 static u64 build(size_t n, u64 b) {
-    return index_full_build(keys, n, b, seeds[1], seeds[2], seeds[3], cells, lent[0], handles, lent[1], left, lent[2], right, lent[3], work, lent[4]);
+    return index_full_build(keys, n, b, seeds[1], seeds[2], seeds[3], cells, lent[0], handles, lent[1], left, lent[2], right, lent[3], work, lent[4],
+                            lengths, lent[5]);
 }
 static u64 call_ask(size_t n, u64 b, u64 x) { return index_call_ask(keys, n, b, seeds[1], seeds[2], cells, lent[0], x); }
-static u64 near_ask(size_t n, u64 x) { return index_neighbour_ask(keys, n, seeds[3], handles, lent[1], left, lent[2], right, lent[3], x); }
+static u64 near_ask(size_t n, u64 x) {
+    return index_neighbour_ask(keys, n, seeds[3], handles, lent[1], left, lent[2], right, lent[3], lengths, lent[5], x);
+}
 
 // A build over stores that hold random numbers: what it says, and what it leaves there and beyond. Which filling of the cells is written would
 // be free; the same algorithm writes the same one.
 static u64 tried(size_t n, u64 b) {
-    for (int i = 0; i < 5; i++)
+    for (int i = 0; i < STORES - 1; i++)
         for (size_t j = 0; j < named[i] + BEYOND; j++) store[i][j] = random();
+    for (size_t j = 0; j < named[5] + BEYOND; j++) lengths[j] = random();
     u64 said = build(n, b);
     note(said);
-    for (int i = 0; i < 5; i++)
+    for (int i = 0; i < STORES - 1; i++)
         for (size_t j = 0; j < named[i] + BEYOND; j++) note(store[i][j]);
+    for (size_t j = 0; j < named[5] + BEYOND; j++) note(lengths[j]);
     return said;
 }
 // Stores as long as named, each of them one entry shorter, all of them empty; then each refusal beside those that come after it.
 static void refusals(size_t n, u64 b) {
-    for (int i = 0; i < 5; i++) lent[i] = named[i];
+    for (int i = 0; i < STORES; i++) lent[i] = named[i];
     tried(n, b);
-    for (int i = 0; i < 5; i++) lent[i]--, tried(n, b), lent[i]++;
-    for (int i = 0; i < 5; i++) lent[i] = 0;
+    for (int i = 0; i < STORES; i++) lent[i]--, tried(n, b), lent[i]++;
+    for (int i = 0; i < STORES; i++) lent[i] = 0;
     tried(n, b);
     if (n > 1) keys[n / 2] = keys[n / 2 - 1];
     tried(n, b), tried(n, 1), tried(n, 257), tried(MOST + 1, 1);
 }
 
-// All that two programs have to agree on: what builds say and leave, for seeds that jam too; the answers; then the answers over damaged stores
-// and the refusals.
+// All that two programs have to agree on: what builds say and leave, for seeds that jam too; the answers; then the answers over false lengths
+// alone, none of them over 63 and the root's the last to go, over a root of 64 bits and over damaged stores; and the refusals.
 static void compare(size_t n, u64 b, size_t times) {
     u64 probes = 0, found = 0, said;
     tried(0, b);
@@ -163,19 +170,29 @@ static void compare(size_t n, u64 b, size_t times) {
         }
     }
     print("found=", found), print("probes=", probes);
+    for (int k = 0; k < 6; k++) {
+        for (size_t i = 0; i < MOST; i++)
+            if (k > 2 || i != left[0]) lengths[i] ^= random() & random() & random() & random() & 63;
+        choose(n, k % 3);
+        for (size_t i = 0; i < times; i++) note(near_ask(n, asks[i]));
+    }
+    u8 *root = &lengths[left[0]], length = *root;
+    *root = 64, note(near_ask(n, asks[0])), *root = length;
     for (size_t i = 0; i < MOST; i++) {
         left[i] ^= random() >> 63 << random() % 16;
         right[i] ^= random() >> 63;
         cells[i] ^= random();
         handles[i] ^= random() & random() & random();
+        lengths[i] ^= random() & random() & random() & random();
     }
     for (size_t i = 0; i < times; i++) note(call_ask(n, b, asks[i])), note(near_ask(n, asks[i]));
     note(index_call_ask(keys, n, 1, 0, 0, cells, 9, 0));
     note(index_call_ask(keys, n, 2, 0, 0, cells, 9, 0));
     note(index_call_ask(keys, MOST + 1, 2, 0, 0, cells, 9, 0));
-    note(index_neighbour_ask(keys, n, 0, handles, 1, left, MOST, right, MOST, 0));
-    note(index_neighbour_ask(keys, n, 0, handles, CELLS, left, 0, right, MOST, 0));
-    note(index_neighbour_ask(keys, n, 0, handles, CELLS, left, MOST, right, 0, 0));
+    note(index_neighbour_ask(keys, n, 0, handles, 1, left, MOST, right, MOST, lengths, MOST, 0));
+    note(index_neighbour_ask(keys, n, 0, handles, CELLS, left, 0, right, MOST, lengths, MOST, 0));
+    note(index_neighbour_ask(keys, n, 0, handles, CELLS, left, MOST, right, 0, lengths, MOST, 0));
+    note(index_neighbour_ask(keys, n, 0, handles, CELLS, left, MOST, right, MOST, lengths, 0, 0));
     refusals(n, b);
 }
 

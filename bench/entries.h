@@ -9,14 +9,16 @@ typedef __SIZE_TYPE__ size_t;
 typedef __UINT64_TYPE__ u64;
 typedef __UINT32_TYPE__ u32;
 typedef __UINT16_TYPE__ u16;
+typedef __UINT8_TYPE__ u8;
 
 #define ABSENT (~(u64)0)
 #define REFUSED(number, named) ((u64)1 << 63 | (u64)(number) << 32 | (u64)(named))
 #define JAMMED(map, size) (REFUSED(5, map) | (u64)(size) << 40)
 
 u64 index_full_build(const u64 *keys, size_t n, size_t b, u64 seed1, u64 seed2, u64 seed3, u16 *cells, size_t cells_n, u16 *handles,
-                     size_t handles_n, u16 *left, size_t left_n, u16 *right, size_t right_n, u16 *work, size_t work_n);
+                     size_t handles_n, u16 *left, size_t left_n, u16 *right, size_t right_n, u16 *work, size_t work_n, u8 *lengths,
+                     size_t lengths_n);
 u64 index_call_ask(const u64 *keys, size_t n, size_t b, u64 seed1, u64 seed2, const u16 *cells, size_t cells_n, u64 x);
 u64 index_neighbour_ask(const u64 *keys, size_t n, u64 seed3, const u16 *handles, size_t handles_n, const u16 *left, size_t left_n,
-                 const u16 *right, size_t right_n, u64 x);
+                 const u16 *right, size_t right_n, const u8 *lengths, size_t lengths_n, u64 x);
 #endif

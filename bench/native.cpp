@@ -93,11 +93,12 @@ int main(int argc, char **argv) {
 
     const size_t cells_n = 2 * 41295, handles_n = 41295, work_n = 2 * 41295 + 2 * 32768;
     std::vector<u16> cells(cells_n), handles(handles_n), left(n), right(n), work(work_n);
+    std::vector<u8> lengths(n);
     u64 seeds[4]; // the seed of map m at m
     for (size_t b : {2, 16, 256}) {
         auto build = [&] {
             return index_full_build(keys.data(), n, b, seeds[1], seeds[2], seeds[3], cells.data(), cells_n, handles.data(), handles_n, left.data(), n,
-                                    right.data(), n, work.data(), work_n);
+                                    right.data(), n, work.data(), work_n, lengths.data(), n);
         };
         seeds[1] = seeds[2] = seeds[3] = 0;
         while (u64 said = build()) seeds[said & 3]++; // a refusal names the map that jams
@@ -106,7 +107,7 @@ int main(int argc, char **argv) {
             [&](u64 x) { return index_call_ask(keys.data(), n, b, seeds[1], seeds[2], cells.data(), cells_n, x); });
     }
     row("neighbour index (twin)", -1, asks, [&](u64 x) {
-        return index_neighbour_ask(keys.data(), n, seeds[3], handles.data(), handles_n, left.data(), n, right.data(), n, x);
+        return index_neighbour_ask(keys.data(), n, seeds[3], handles.data(), handles_n, left.data(), n, right.data(), n, lengths.data(), n, x);
     });
     row("std::lower_bound (rank and row)", 0, asks, [&](u64 x) { return (u64)(std::lower_bound(keys.begin(), keys.end(), x) - keys.begin()); });
     row("binary search without branches", 0, asks, [&](u64 x) {

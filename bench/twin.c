@@ -1,7 +1,7 @@
 // An unverified twin of the proved library in plain C: the same algorithms (an item is hashed three times and taken out when its turn
 // comes, the seed is mixed once for a map, remainders come from one reciprocal for a map, the 2-fattest number from the highest differing bit),
-// the same memory (u64 keys, u16 cells, left, right and work) and the same checks in the same order. Items are computed and not stored, as
-// only 16-bit numbers are lent. So what is left of a difference is what the proved code's form costs.
+// the same memory (u64 keys, u16 cells, left, right and work, u8 lengths) and the same checks in the same order. Items are computed and not
+// stored, as only 16-bit numbers and bytes are lent. So what is left of a difference is what the proved code's form costs.
 //
 // Variants, for finding out what a choice is worth (none is defined for the comparison):
 //   DIVISION      remainders by M from a division for each, and not from the reciprocal of M
@@ -264,10 +264,20 @@ static inline void build_bounds(const u64 *keys, size_t n, u16 *left, u16 *right
     right[0] = 0;
 }
 
+// The length of each split; entry 0 is 0.
+static inline void build_lengths(const u64 *keys, size_t n, u8 *lengths) {
+    if (n == 0)
+        return;
+    lengths[0] = 0;
+    for (size_t m = 1; m < n; m++)
+        lengths[m] = len_at(keys, m);
+}
+
 // ---- the entries
 
 u64 index_full_build(const u64 *keys, size_t n, size_t b, u64 seed1, u64 seed2, u64 seed3, u16 *cells, size_t cells_n, u16 *handles,
-                     size_t handles_n, u16 *left, size_t left_n, u16 *right, size_t right_n, u16 *work, size_t work_n) {
+                     size_t handles_n, u16 *left, size_t left_n, u16 *right, size_t right_n, u16 *work, size_t work_n, u8 *lengths,
+                     size_t lengths_n) {
     if (n > MOST)
         return REFUSED(1, 0);
     if (b < 2 || b > 256)
@@ -286,11 +296,14 @@ u64 index_full_build(const u64 *keys, size_t n, size_t b, u64 seed1, u64 seed2, 
         return REFUSED(4, 4);
     if (work_n < 2 * c + 2 * n)
         return REFUSED(4, 5);
+    if (lengths_n < n)
+        return REFUSED(4, 6);
     size_t map = 1, size = build_keys(keys, n, b, seed1, cells, work);
     if (!size)
         map = 2, size = build_prefixes(keys, n, b, k, seed2, cells + c, work);
     if (!size) {
         build_bounds(keys, n, left, right);
+        build_lengths(keys, n, lengths);
         map = 3, size = build_handles(keys, n, left, right, t, seed3, handles, work);
         if (!size)
             return 0;
@@ -300,6 +313,7 @@ u64 index_full_build(const u64 *keys, size_t n, size_t b, u64 seed1, u64 seed2, 
     __builtin_memset(handles, 0, handles_all * sizeof *handles);
     __builtin_memset(left, 0, n * sizeof *left);
     __builtin_memset(right, 0, n * sizeof *right);
+    __builtin_memset(lengths, 0, n);
     return JAMMED(map, size);
 }
 
@@ -325,7 +339,7 @@ static inline u64 place(const u64 *keys, size_t n, u64 x, size_t before, u64 pro
 }
 
 u64 index_neighbour_ask(const u64 *keys, size_t n, u64 seed3, const u16 *handles, size_t handles_n, const u16 *left, size_t left_n,
-                 const u16 *right, size_t right_n, u64 x) {
+                 const u16 *right, size_t right_n, const u8 *lengths, size_t lengths_n, u64 x) {
     if (n > MOST)
         return REFUSED(1, 0);
     size_t t = handle_count(n);
@@ -335,6 +349,8 @@ u64 index_neighbour_ask(const u64 *keys, size_t n, u64 seed3, const u16 *handles
         return REFUSED(4, 3);
     if (right_n < n)
         return REFUSED(4, 4);
+    if (lengths_n < n)
+        return REFUSED(4, 6);
     if (n == 0)
         return place(keys, n, x, 0, 0);
     if (n == 1)
@@ -342,7 +358,7 @@ u64 index_neighbour_ask(const u64 *keys, size_t n, u64 seed3, const u16 *handles
     size_t node = left[0];
     if (node == 0 || node >= n)
         return REFUSED(6, 0);
-    unsigned lower = len_at(keys, node), upper = 64;
+    unsigned lower = lengths[node], upper = 64;
     if (lower > 63)
         return REFUSED(6, 0);
     if (shared(x, keys[node]) < lower)
@@ -353,7 +369,7 @@ u64 index_neighbour_ask(const u64 *keys, size_t n, u64 seed3, const u16 *handles
         size_t m = look_up(handles, t, seed3, prefix_item(x, f));
         probes++;
         unsigned l;
-        if (m > 0 && m < n && (l = len_at(keys, m)) >= f && l < upper && shared(x, keys[m]) >= l)
+        if (m > 0 && m < n && (l = lengths[m]) >= f && l < upper && shared(x, keys[m]) >= l)
             node = m, lower = l;
         else
             upper = f;

@@ -85,7 +85,7 @@ pub fn ask(
 ) -> Result<Option<usize>, Refusal> {
     judge_limits(keys, bucket)?;
     let n = keys.len();
-    judge_store(1, cells, cells_named(n, bucket))?;
+    judge_store(1, cells.len(), cells_named(n, bucket))?;
 
     let value = usize::from(maps::lookup(x, seeds[0], n, cells));
     let (length, offset) = (value / 256, value % 256);

@@ -1,10 +1,10 @@
-//! The full build: maps 1, 2 and 3 with `left` and `right`, all in lent memory.
+//! The full build: maps 1, 2 and 3 with `left`, `right` and the lengths, all in lent memory.
 
 use crate::refusal::{jam, judge_store, BuildRefusal, Refusal};
 use crate::table::judge_rising;
 use crate::{call, maps, neighbour};
 
-/// The memory lent to the build: stores 1 to 5.
+/// The memory lent to the build: stores 1 to 6.
 #[derive(Clone, Debug, Default, PartialEq, Eq)]
 pub struct Stores {
     pub cells: Vec<u16>,
@@ -12,20 +12,22 @@ pub struct Stores {
     pub left: Vec<u16>,
     pub right: Vec<u16>,
     pub work: Vec<u16>,
+    pub lengths: Vec<u8>,
 }
 
-/// The named lengths of stores 1 to 5.
-pub fn named(n: usize, bucket: usize) -> [usize; 5] {
+/// The named lengths of stores 1 to 6.
+pub fn named(n: usize, bucket: usize) -> [usize; 6] {
     let work = 2 * maps::cell_count(n) + 2 * n;
-    [call::cells_named(n, bucket), neighbour::handles_named(n), n, n, work]
+    [call::cells_named(n, bucket), neighbour::handles_named(n), n, n, work, n]
 }
 
 impl Stores {
-    /// Stores of these lengths; in each, entry i holds `entry(i)`.
-    pub fn filled(lengths: [usize; 5], entry: impl Fn(usize) -> u16) -> Stores {
-        let [cells, handles, left, right, work] =
-            lengths.map(|length| (0..length).map(&entry).collect());
-        Stores { cells, handles, left, right, work }
+    /// Stores of these sizes; in each, entry i holds `entry(i)`, of which a byte takes the low half.
+    pub fn filled(sizes: [usize; 6], entry: impl Fn(usize) -> u16) -> Stores {
+        let [cells, handles, left, right, work, lengths] =
+            sizes.map(|size| (0..size).map(&entry).collect::<Vec<u16>>());
+        let lengths = lengths.into_iter().map(|entry| entry as u8).collect();
+        Stores { cells, handles, left, right, work, lengths }
     }
 
     /// Stores of just the named lengths, all 0.
@@ -33,13 +35,20 @@ impl Stores {
         Stores::filled(named(n, bucket), |_| 0)
     }
 
-    /// The stores in the order of their numbers.
-    pub fn all(&self) -> [&Vec<u16>; 5] {
-        [&self.cells, &self.handles, &self.left, &self.right, &self.work]
+    /// What the stores hold, in the order of their numbers.
+    pub fn all(&self) -> [Vec<u16>; 6] {
+        let lengths = self.lengths.iter().map(|&entry| u16::from(entry)).collect();
+        let Stores { cells, handles, left, right, work, .. } = self.clone();
+        [cells, handles, left, right, work, lengths]
     }
 
-    fn all_mut(&mut self) -> [&mut Vec<u16>; 5] {
-        [&mut self.cells, &mut self.handles, &mut self.left, &mut self.right, &mut self.work]
+    /// Sets so many entries of each store to 0.
+    fn clear(&mut self, named: [usize; 6]) {
+        let Stores { cells, handles, left, right, work, lengths } = self;
+        for (store, length) in [cells, handles, left, right, work].into_iter().zip(named) {
+            store[..length].fill(0);
+        }
+        lengths[..named[5]].fill(0);
     }
 
     /// Asks the call index in these stores.
@@ -55,7 +64,7 @@ impl Stores {
 
     /// Asks the neighbour index in these stores.
     pub fn neighbour(&self, keys: &[u64], seed: u64, x: u64) -> Result<neighbour::Answer, Refusal> {
-        neighbour::ask(keys, seed, &self.handles, &self.left, &self.right, x)
+        neighbour::ask(keys, seed, &self.handles, &self.left, &self.right, &self.lengths, x)
     }
 }
 
@@ -85,13 +94,11 @@ pub fn build(
     let n = keys.len();
     let named = named(n, bucket);
     for (i, store) in stores.all().into_iter().enumerate() {
-        judge_store(i + 1, store, named[i])?;
+        judge_store(i + 1, store.len(), named[i])?;
     }
 
     // A jam leaves all stores 0, and work is 0 after acceptance too; nothing here needs work.
-    for (store, length) in stores.all_mut().into_iter().zip(named) {
-        store[..length].fill(0);
-    }
+    stores.clear(named);
     let fill = |map: usize, wanted: &[(u64, u16)]| {
         let refused = |jammed| BuildRefusal { refusal: jam(map), jammed };
         maps::fill(wanted, seeds[map - 1]).map_err(refused)
@@ -104,5 +111,6 @@ pub fn build(
     stores.handles[..named[1]].copy_from_slice(&third);
     stores.left[..n].copy_from_slice(&wanted.left);
     stores.right[..n].copy_from_slice(&wanted.right);
+    stores.lengths[..n].copy_from_slice(&wanted.lengths);
     Ok(())
 }

@@ -12,6 +12,7 @@ mod maps;
 mod mix;
 mod neighbour;
 mod plant;
+mod reads;
 mod refusal;
 mod rowcheck;
 mod samples;
@@ -22,9 +23,10 @@ mod vectors;
 use std::io::{Read, Write};
 use std::process::ExitCode;
 
-const USAGE: &str = "usage: reference VECTORS | rowcheck | selfcheck | cases DIR | chance
+const USAGE: &str = "usage: reference VECTORS | rowcheck | selfcheck | cases DIR | chance | reads
 VECTORS is a name of docs/VECTORS.md; rowcheck reads standard input;
-chance tells how often seeds jam by chance, and how badly";
+chance tells how often seeds jam by chance, and how badly;
+reads tells how many rows of the table a walk reads, without and with the stored lengths";
 
 fn print(text: &str) {
     std::io::stdout().write_all(text.as_bytes()).expect("standard output can be written");
@@ -46,6 +48,7 @@ fn main() -> ExitCode {
         }
         ["selfcheck"] => selfcheck::run(),
         ["chance"] => print(&chance::text()),
+        ["reads"] => print(&reads::text()),
         ["cases", directory] => cases::write(directory.as_ref()).expect("the cases can be written"),
         [name] => match vectors::text(name) {
             Some(text) => print(&text),

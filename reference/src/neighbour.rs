@@ -42,16 +42,18 @@ pub fn handle_length(keys: &[u64], m: usize, rows: &Range<usize>) -> u32 {
     two_fattest(parent_length(keys, rows) + 1, len(keys, m))
 }
 
-/// What the stores are to hold: the items of map 3 with their values, and `left` and `right`.
+/// What the stores are to hold: the items of map 3 with their values, `left`, `right` and the lengths.
 pub struct Wanted {
     pub handles: Vec<(u64, u16)>,
     pub left: Vec<u16>,
     pub right: Vec<u16>,
+    pub lengths: Vec<u8>,
 }
 
 pub fn wanted(keys: &[u64]) -> Wanted {
     let n = keys.len();
-    let mut wanted = Wanted { handles: Vec::new(), left: vec![0; n], right: vec![0; n] };
+    let mut wanted =
+        Wanted { handles: Vec::new(), left: vec![0; n], right: vec![0; n], lengths: vec![0; n] };
     if n < 2 {
         return wanted;
     }
@@ -61,6 +63,7 @@ pub fn wanted(keys: &[u64]) -> Wanted {
         let rows = rows(keys, m);
         wanted.left[m] = rows.start as u16;
         wanted.right[m] = rows.end as u16;
+        wanted.lengths[m] = len(keys, m) as u8;
         if m != root {
             let f = handle_length(keys, m, &rows);
             wanted.handles.push((prefix_item(keys[m], f), m as u16));
@@ -92,20 +95,22 @@ fn answer(keys: &[u64], x: u64, before: usize, probed: Vec<u32>) -> Answer {
     Answer { before, probed, stands }
 }
 
-/// The walk.
+/// The walk. It takes every len from the store, as it stands there.
 pub fn ask(
     keys: &[u64],
     seed: u64,
     handles: &[u16],
     left: &[u16],
     right: &[u16],
+    lengths: &[u8],
     x: u64,
 ) -> Result<Answer, Refusal> {
     judge_count(keys)?;
     let n = keys.len();
-    judge_store(2, handles, handles_named(n))?;
-    judge_store(3, left, n)?;
-    judge_store(4, right, n)?;
+    judge_store(2, handles.len(), handles_named(n))?;
+    judge_store(3, left.len(), n)?;
+    judge_store(4, right.len(), n)?;
+    judge_store(6, lengths.len(), n)?;
 
     if n == 0 {
         return Ok(answer(keys, x, 0, Vec::new()));
@@ -115,16 +120,17 @@ pub fn ask(
         return Ok(answer(keys, x, before, Vec::new()));
     }
 
+    let stored = |m: usize| u32::from(lengths[m]);
     let root = usize::from(left[0]);
-    if root < 1 || root >= n || len(keys, root) > 63 {
+    if root < 1 || root >= n || stored(root) > 63 {
         return Err(SPOILED_BOUNDS);
     }
-    if !agree(x, keys[root], len(keys, root)) {
+    if !agree(x, keys[root], stored(root)) {
         let before = if x <= keys[root] { 0 } else { n };
         return Ok(answer(keys, x, before, Vec::new()));
     }
 
-    let mut lower = len(keys, root);
+    let mut lower = stored(root);
     let mut upper = 64;
     let mut node = root;
     let mut probed = Vec::new();
@@ -134,12 +140,12 @@ pub fn ask(
         let item = prefix_item(x, f);
         let m = usize::from(maps::lookup(item, seed, handle_count(n), handles));
         let accepted = 1 <= m && m < n && {
-            let length = len(keys, m);
+            let length = stored(m);
             f <= length && length < upper && agree(x, keys[m], length)
         };
         if accepted {
             node = m;
-            lower = len(keys, m);
+            lower = stored(m);
         } else {
             upper = f;
         }

@@ -45,8 +45,8 @@ impl From<Refusal> for BuildRefusal {
 }
 
 /// Refuses a store of fewer entries than its named length.
-pub fn judge_store(store: usize, entries: &[u16], named_length: usize) -> Result<(), Refusal> {
-    if entries.len() < named_length {
+pub fn judge_store(store: usize, entries: usize, named_length: usize) -> Result<(), Refusal> {
+    if entries < named_length {
         Err(short_store(store))
     } else {
         Ok(())

@@ -7,6 +7,7 @@ use crate::gen::Gen;
 use crate::keys::{pack, unpack, Fields};
 use crate::maps::items_of;
 use crate::mix::{item_hash, mix};
+use crate::reads::{self, Source};
 use crate::refusal::{jam, BuildRefusal, Refusal};
 use crate::rowcheck::{self, Built};
 use crate::{call, cases, maps, neighbour, plant, samples, table, vectors};
@@ -16,7 +17,7 @@ use std::collections::BTreeSet;
 type Group = (&'static str, fn() -> usize);
 
 pub fn run() {
-    let groups: [Group; 15] = [
+    let groups: [Group; 18] = [
         ("constants", constants),
         ("bits", bits),
         ("key fields", key_fields),
@@ -26,6 +27,9 @@ pub fn run() {
         ("refusals of the build", build_refusals),
         ("refusals of the asks", ask_refusals),
         ("spoiled bounds", spoiled_bounds),
+        ("a false length by hand", false_length),
+        ("rows read, by hand", rows_read),
+        ("false lengths by another walk", false_lengths),
         ("short stores", short_stores),
         ("sizes of jams", jam_sizes),
         ("what a build leaves", lent_memory),
@@ -261,8 +265,10 @@ fn check_answers(keys: &[u64], bucket: usize, rows: usize, gen: &mut Gen) -> usi
         assert_eq!(answer.before, keys.iter().filter(|&&key| key < x).count());
         assert_eq!(answer.stands, row.is_some());
         assert!(answer.probed.len() as u32 <= most_probes && most_probes <= 6);
+        // With len from the table, as it was before the lengths were stored, the answer is the same.
+        assert_eq!(reads::walk(Source::Table, keys, seed, &stores, x).answer, Ok(answer));
     }
-    n + all.len()
+    n + 2 * all.len()
 }
 
 fn answers() -> usize {
@@ -302,9 +308,9 @@ fn too_many() -> Vec<u64> {
 const RISING: [u64; 4] = [1, 2, 3, 4];
 const FALLING: [u64; 4] = [1, 2, 2, 1];
 
-/// A number for entry i that is never 0.
+/// A number for entry i of which neither byte is 0.
 fn pattern(i: usize) -> u16 {
-    1 + (i % 65_535) as u16
+    257 * (1 + i % 255) as u16
 }
 
 /// Looks whether the build gives this refusal, tells of no jam and changes nothing.
@@ -312,10 +318,10 @@ fn check_refused(
     keys: &[u64],
     bucket: usize,
     seeds: [u64; 3],
-    lengths: [usize; 5],
+    sizes: [usize; 6],
     refusal: Refusal,
 ) {
-    let mut stores = Stores::filled(lengths, pattern);
+    let mut stores = Stores::filled(sizes, pattern);
     let before = stores.clone();
     let said = full::build(keys, bucket, seeds, &mut stores);
     assert_eq!(said, Err(BuildRefusal { refusal, jammed: 0 }));
@@ -327,8 +333,8 @@ fn check_refused(
 fn build_refusals() -> usize {
     let mut checks = 0;
     let mut refused = |keys: &[u64], bucket: usize, number: u32, named: usize| {
-        for lengths in [[0; 5], [100; 5]] {
-            check_refused(keys, bucket, [0; 3], lengths, Refusal { number, named });
+        for sizes in [[0; 6], [100; 6]] {
+            check_refused(keys, bucket, [0; 3], sizes, Refusal { number, named });
             checks += 1;
         }
     };
@@ -358,19 +364,23 @@ fn ask_refusals() -> usize {
     assert_eq!(call(&FALLING, 2, cells - 1), refused(4, 1));
     assert_eq!(call(&FALLING, 2, cells), Ok(Some(0)));
 
-    let neighbour = |keys: &[u64], lengths: [usize; 3]| {
-        let [handles, left, right] = lengths.map(|length| vec![0; length]);
-        neighbour::ask(keys, 0, &handles, &left, &right, 1).map(|answer| answer.before)
+    let neighbour = |keys: &[u64], [handles, left, right, lengths]: [usize; 4]| {
+        let stores = Stores::filled([0, handles, left, right, 0, lengths], |_| 0);
+        stores.neighbour(keys, 0, 1).map(|answer| answer.before)
     };
-    assert_eq!(neighbour(&too_many(), [0; 3]), refused(1, 0));
-    assert_eq!(neighbour(&FALLING, [handles - 1, 0, 0]), refused(4, 2));
-    assert_eq!(neighbour(&FALLING, [handles, 3, 0]), refused(4, 3));
-    assert_eq!(neighbour(&FALLING, [handles, 4, 3]), refused(4, 4));
-    assert_eq!(neighbour(&FALLING, [handles, 4, 4]), refused(6, 0));
-    assert_eq!(neighbour(&[], [8, 0, 0]), refused(4, 2));
-    assert_eq!(neighbour(&[5], [9, 0, 1]), refused(4, 3));
-    assert_eq!(neighbour(&[5], [9, 1, 0]), refused(4, 4));
-    12
+    assert_eq!(neighbour(&too_many(), [0; 4]), refused(1, 0));
+    assert_eq!(neighbour(&FALLING, [handles - 1, 0, 0, 0]), refused(4, 2));
+    assert_eq!(neighbour(&FALLING, [handles, 3, 0, 0]), refused(4, 3));
+    assert_eq!(neighbour(&FALLING, [handles, 4, 3, 0]), refused(4, 4));
+    assert_eq!(neighbour(&FALLING, [handles, 4, 4, 3]), refused(4, 6));
+    assert_eq!(neighbour(&FALLING, [handles, 4, 4, 4]), refused(6, 0));
+    assert_eq!(neighbour(&[], [8, 0, 0, 0]), refused(4, 2));
+    assert_eq!(neighbour(&[], [9, 0, 0, 0]), Ok(0));
+    assert_eq!(neighbour(&[5], [9, 0, 1, 1]), refused(4, 3));
+    assert_eq!(neighbour(&[5], [9, 1, 0, 1]), refused(4, 4));
+    assert_eq!(neighbour(&[5], [9, 1, 1, 0]), refused(4, 6));
+    assert_eq!(neighbour(&[5], [9, 1, 1, 1]), Ok(0));
+    16
 }
 
 /// Spoiled bounds are judged at the root and at the last node only.
@@ -395,17 +405,134 @@ fn spoiled_bounds() -> usize {
         let answer = stores.neighbour(&keys, built.seed, x);
         assert_eq!(answer.map(|answer| answer.before), expected);
     }
-    let stores = Stores { left: vec![1, 0], right: vec![0, 2], ..Stores::named(2, 2) };
-    assert_eq!(stores.neighbour(&[4, 4], 0, 4), refused(6, 0));
-    spoiled.len() + 1
+    // Equal keys share 64 bits; only a stored length of so many is refused.
+    for (length, expected) in [(64, refused(6, 0)), (63, Ok(0)), (0, Ok(0))] {
+        let lengths = vec![0, length];
+        let stores = Stores { left: vec![1, 0], right: vec![0, 2], lengths, ..Stores::named(2, 2) };
+        assert_eq!(stores.neighbour(&[4, 4], 0, 4).map(|answer| answer.before), expected);
+    }
+    spoiled.len() + 3
+}
+
+/// One false length in the stores of the table 2, 3, 8. Its root is split 2, of length 60, and
+/// split 1 has length 63 and a handle of 62 bits.
+fn false_length() -> usize {
+    let keys = [2, 3, 8];
+    let built = rowcheck::build(&keys, 2).unwrap();
+    assert_eq!(built.stores.lengths, [0, 63, 60]);
+    let told = [
+        // A root of more than 63 bits is refused, whatever is asked.
+        (2, 64, 3, None),
+        (2, 64, u64::MAX, None),
+        (2, 255, 8, None),
+        // With 63 bits the root's string is that of 8 and 9: others leave there, and the exit bit
+        // is the last one.
+        (2, 63, 3, Some((0, 0, false))),
+        (2, 63, 16, Some((3, 0, false))),
+        (2, 63, 8, Some((2, 0, true))),
+        (2, 63, 9, Some((3, 0, false))),
+        // With no bits every key has the root's string, and the exit bit is the first one.
+        (2, 0, 16, Some((2, 6, false))),
+        (2, 0, 1 << 63, Some((3, 6, false))),
+        // Split 1 is never accepted with as many bits as `upper`, nor with fewer than its handle.
+        (1, 64, 3, Some((2, 2, false))),
+        (1, 255, 3, Some((2, 2, false))),
+        (1, 60, 3, Some((2, 2, false))),
+        // With 62 bits it is, and one probe more is made; the exit bit is then the last but one.
+        (1, 62, 3, Some((1, 2, true))),
+        (1, 62, 2, Some((1, 2, false))),
+        // Entry 0 is not read.
+        (0, 64, 3, Some((1, 1, true))),
+    ];
+    for (entry, length, x, expected) in told {
+        let mut stores = built.stores.clone();
+        stores.lengths[entry] = length;
+        let answer = stores.neighbour(&keys, built.seed, x);
+        let found = answer.map(|answer| (answer.before, answer.probed.len(), answer.stands));
+        assert_eq!(found, expected.ok_or(Refusal { number: 6, named: 0 }), "{entry} {length} {x}");
+    }
+    told.len()
+}
+
+/// The rows that two asks of the smallest worked table read, by hand: map 3 has one item, and only it
+/// is looked up.
+fn rows_read() -> usize {
+    let keys = [2, 3, 8];
+    let Built { seed, stores } = rowcheck::build(&keys, 2).unwrap();
+    // len of the root, its string; len of split 1 and its string; the last comparison; whether x stands.
+    let told = [
+        (Source::Table, 3, vec![1, 2, 2, 0, 1, 1, 1, 1], 3..6),
+        (Source::Store, 3, vec![2, 1, 1, 1], 1..2),
+        // 16 leaves at the root's string, and stands after all rows.
+        (Source::Table, 16, vec![1, 2, 2, 2], 0..0),
+        (Source::Store, 16, vec![2, 2], 0..0),
+    ];
+    for (source, x, read, probing) in &told {
+        let walk = reads::walk(*source, &keys, seed, &stores, *x);
+        assert_eq!((&walk.read, &walk.probing), (read, probing), "{x}");
+    }
+    told.len()
+}
+
+/// What the walk makes of false lengths, held to a second walk that takes len from the store too.
+/// Every kind of outcome is to be met often.
+fn false_lengths() -> usize {
+    let mut gen = Gen::new(9);
+    let mut checks = 0;
+    // An over-long root refused, bounds refused, the answer over true lengths, and another one.
+    let mut seen = [0; 4];
+    for round in 0..2000 {
+        let n = 2 + gen.below(30) as usize;
+        let base = gen.next();
+        let width = 6 + gen.below(58);
+        let mut keys = gen.rising(n, |gen| base ^ ((gen.next() & gen.next()) >> (63 - width)));
+        let Built { seed, mut stores } = rowcheck::build(&keys, 2).unwrap();
+        let (built, root) = (stores.clone(), usize::from(stores.left[0]));
+        let most = [64, 66, 256][round % 3];
+        for length in &mut stores.lengths {
+            // Some lengths stay true, so that walks get far.
+            if gen.below(3) > 0 {
+                *length = gen.below(most) as u8;
+            }
+        }
+        if round % 4 > 0 {
+            stores.lengths[root] = built.lengths[root];
+        }
+        if round % 5 == 0 {
+            stores.handles.fill_with(|| gen.below(n as u64 + 2) as u16);
+        }
+        if round % 5 == 1 {
+            stores.right.fill_with(|| gen.below(n as u64 + 2) as u16);
+        }
+        // No length is looked up in the table, so it need not rise.
+        if round % 7 == 0 {
+            keys.reverse();
+        }
+        for x in asks(&keys, 20, &mut gen) {
+            let answer = stores.neighbour(&keys, seed, x);
+            assert_eq!(answer, reads::walk(Source::Store, &keys, seed, &stores, x).answer);
+            let told = match &answer {
+                Err(_) if stores.lengths[root] > 63 => 0,
+                Err(_) => 1,
+                Ok(_) if answer == built.neighbour(&keys, seed, x) => 2,
+                Ok(_) => 3,
+            };
+            assert_eq!(stores.lengths[root] > 63, told == 0);
+            assert!(answer.map_or(0, |answer| answer.probed.len()) <= 6);
+            seen[told] += 1;
+            checks += 1;
+        }
+    }
+    assert!(seen.iter().all(|&count| count > 1000), "{seen:?}");
+    checks
 }
 
 /// Refusal 4. Every set of stores is too short in turn, by one entry and by all, and the others are
 /// just long enough. The seeds jam where some do: a short store is judged before a jam.
 fn short_stores() -> usize {
     // Work has the length that the keys want, for no key and for one too.
-    assert_eq!(full::named(0, 2), [18, 9, 0, 0, 18]);
-    assert_eq!(full::named(1, 2), [18, 9, 1, 1, 20]);
+    assert_eq!(full::named(0, 2), [18, 9, 0, 0, 18, 0]);
+    assert_eq!(full::named(1, 2), [18, 9, 1, 1, 20, 1]);
     let mut checks = 2;
     for n in [0, 1, 2, 3, 5, 17, 40] {
         let keys = samples::table("spread", n);
@@ -414,15 +541,15 @@ fn short_stores() -> usize {
             let maps = full::three_maps(&keys, bucket);
             let seeds = [0, 1, 2].map(|i| (0..64).find(|&seed| jams_under(&maps[i], seed)));
             let seeds = seeds.map(|seed| seed.unwrap_or(0));
-            for set in 1..32 {
+            for set in 1..64 {
                 let short = |i: usize| set >> i & 1 == 1;
-                let Some(first) = (0..5).find(|&i| short(i) && named[i] > 0) else { continue };
-                let by_one =
-                    [0, 1, 2, 3, 4].map(|i| named[i].saturating_sub(usize::from(short(i))));
-                let by_all = [0, 1, 2, 3, 4].map(|i| if short(i) { 0 } else { named[i] });
-                for lengths in [by_one, by_all] {
+                let Some(first) = (0..6).find(|&i| short(i) && named[i] > 0) else { continue };
+                let all = [0, 1, 2, 3, 4, 5];
+                let by_one = all.map(|i| named[i].saturating_sub(usize::from(short(i))));
+                let by_all = all.map(|i| if short(i) { 0 } else { named[i] });
+                for sizes in [by_one, by_all] {
                     let refusal = Refusal { number: 4, named: first + 1 };
-                    check_refused(&keys, bucket, seeds, lengths, refusal);
+                    check_refused(&keys, bucket, seeds, sizes, refusal);
                     checks += 1;
                 }
             }
@@ -525,13 +652,13 @@ fn check_left(keys: &[u64], bucket: usize, seeds: [u64; 3], refusal: Option<Refu
     let said = full::build(keys, bucket, seeds, &mut stores);
     assert_eq!(said, expected(keys, bucket, seeds));
     assert_eq!(said.err().map(|refused| refused.refusal), refusal);
-    for (i, (store, before)) in stores.all().into_iter().zip(before.all()).enumerate() {
+    for (i, (store, before)) in stores.all().iter().zip(before.all()).enumerate() {
         assert_eq!(store[named[i]..], before[named[i]..]);
     }
     let zero = |entries: &[u16]| entries.iter().all(|&entry| entry == 0);
     assert!(zero(&stores.work[..named[4]]));
     if refusal.is_some() {
-        assert!(stores.all().into_iter().zip(named).all(|(store, length)| zero(&store[..length])));
+        assert!(stores.all().iter().zip(named).all(|(store, length)| zero(&store[..length])));
         return;
     }
     let (first, second) = stores.cells.split_at(maps::cell_count(n));
@@ -542,9 +669,24 @@ fn check_left(keys: &[u64], bucket: usize, seeds: [u64; 3], refusal: Option<Refu
     let wanted = neighbour::wanted(keys);
     assert_eq!(stores.left[..n], wanted.left);
     assert_eq!(stores.right[..n], wanted.right);
+    check_lengths(keys, &stores.lengths);
     for (row, &key) in keys.iter().enumerate() {
         assert_eq!(stores.call(keys, bucket, [seeds[0], seeds[1]], key), Ok(Some(row)));
         assert_eq!(stores.neighbour(keys, seeds[2], key).unwrap().before, row);
+    }
+}
+
+/// Looks whether entry 0 of the lengths is 0, and counts each of the others bit by bit.
+fn check_lengths(keys: &[u64], lengths: &[u8]) {
+    for m in 0..keys.len() {
+        let mut shared = 0;
+        if m > 0 {
+            let (one, other) = (reads::bits(keys[m - 1]), reads::bits(keys[m]));
+            while one.as_bytes()[shared] == other.as_bytes()[shared] {
+                shared += 1;
+            }
+        }
+        assert_eq!(usize::from(lengths[m]), shared);
     }
 }
 

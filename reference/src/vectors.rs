@@ -134,20 +134,20 @@ fn fullvectors() -> String {
     text
 }
 
-/// Builds in stores of these lengths, whose entry i holds mix(i + 1) mod 65536 before, and takes
-/// what is left in them into the digest.
+/// Builds in stores of these sizes, whose entry i holds mix(i + 1) before, modulo 65536 or, in the
+/// lengths, 256; and takes what is left in them into the digest.
 fn tried(
     keys: &[u64],
     bucket: usize,
     seeds: [u64; 3],
-    lengths: [usize; 5],
+    sizes: [usize; 6],
     digest: &mut u64,
 ) -> String {
-    let mut stores = Stores::filled(lengths, |i| (mix(i as u64 + 1) % 65_536) as u16);
+    let mut stores = Stores::filled(sizes, |i| (mix(i as u64 + 1) % 65_536) as u16);
     let result = full::build(keys, bucket, seeds, &mut stores);
     // Which filling of the maps is written after acceptance is free.
     let told = if result.is_ok() { 2 } else { 0 };
-    for &entry in stores.all()[told..].iter().copied().flatten() {
+    for &entry in stores.all()[told..].iter().flatten() {
         *digest = mix(digest.wrapping_add(u64::from(entry)));
     }
     said(result)
@@ -190,48 +190,56 @@ fn verdicts(text: &mut String) {
 fn refusals(text: &mut String) {
     let (n, bucket) = (17, 3);
     let mut refused = |tag: &str, keys: &[u64], bucket_size: usize, short: usize| {
-        let mut lengths = full::named(n, bucket);
-        for (i, length) in lengths.iter_mut().enumerate() {
-            *length -= short >> i & 1;
+        let mut sizes = full::named(n, bucket);
+        for (i, size) in sizes.iter_mut().enumerate() {
+            *size -= short >> i & 1;
         }
         let mut digest = 1;
-        let said = tried(keys, bucket_size, [0; 3], lengths, &mut digest);
+        let said = tried(keys, bucket_size, [0; 3], sizes, &mut digest);
         line!(text, "{tag} said={said} stores={digest:016x}");
     };
     let mut keys = table("spread", n);
-    for short in 0..32 {
+    for short in 0..64 {
         refused(&format!("short={short}"), &keys, bucket, short);
     }
     // Each of these has all the faults that are judged later.
     keys.reverse();
-    refused("turned", &keys, bucket, 31);
-    refused("bucket=1", &keys, 1, 31);
-    refused("bucket=257", &keys, 257, 31);
+    refused("turned", &keys, bucket, 63);
+    refused("bucket=1", &keys, 1, 63);
+    refused("bucket=257", &keys, 257, 63);
     let keys = table("spread", MOST_KEYS + 1);
-    refused(&format!("keys={}", keys.len()), &keys, 257, 31);
+    refused(&format!("keys={}", keys.len()), &keys, 257, 63);
+}
+
+/// The tables over which both indexes are asked: name and number of keys.
+pub fn answer_tables() -> Vec<(&'static str, usize)> {
+    let mut tables = Vec::new();
+    for name in ["sequential", "spread", "clustered", "bits"] {
+        for n in [0, 1, 2, 3, 5, 17, 64, 65, 256, 257, 2000] {
+            if name != "bits" || n <= 65 {
+                tables.push((name, n));
+            }
+        }
+    }
+    tables
 }
 
 fn answers(text: &mut String) {
-    for name in ["sequential", "spread", "clustered", "bits"] {
-        for n in [0, 1, 2, 3, 5, 17, 64, 65, 256, 257, 2000] {
-            if name == "bits" && n > 65 {
-                continue;
-            }
-            let keys = table(name, n);
-            for bucket in [2, 3, 16, 255, 256] {
-                let Built { seed, stores } = first_taken(&keys, bucket);
-                let Found { found, digest } = ask_call(&keys, bucket, seed, &stores.cells);
-                let call = format!("found={found} call={digest:016x}");
-                let Probed { sum, most, digest } = ask_neighbour(&keys, seed, &stores);
-                let neighbour = format!("probes={sum} most={most} neighbour={digest:016x}");
-                line!(text, "table={name} keys={n} bucket={bucket} seed={seed} {call} {neighbour}");
-            }
+    for (name, n) in answer_tables() {
+        let keys = table(name, n);
+        for bucket in [2, 3, 16, 255, 256] {
+            let Built { seed, stores } = first_taken(&keys, bucket);
+            let Found { found, digest } = ask_call(&keys, bucket, seed, &stores.cells);
+            let call = format!("found={found} call={digest:016x}");
+            let Probed { sum, most, digest } = ask_neighbour(&keys, seed, &stores);
+            let neighbour = format!("probes={sum} most={most} neighbour={digest:016x}");
+            line!(text, "table={name} keys={n} bucket={bucket} seed={seed} {call} {neighbour}");
         }
     }
 }
 
 /// Each key with the keys below and above it, in row order, and at last the two ends.
-fn asks(keys: &[u64]) -> Vec<u64> {
+pub fn asks(keys: &[u64]) -> Vec<u64> {
     let mut asks = Vec::new();
     for &key in keys {
         asks.extend([key, key.wrapping_sub(1), key.wrapping_add(1)]);
@@ -343,11 +351,14 @@ fn neighbourvectors() -> String {
 fn neighbourvectors_of(text: &mut String, keys: &[u64], seed: u64, mut built: Stores) {
     let n = keys.len();
     let size = n as u64;
+    let root = built.left.first().map_or(0, |&root| usize::from(root));
     let numbers = |from: usize, to: usize, add: u64, modulus: u64| {
         (from..to).map(move |i| (mix(i as u64 + add) % modulus) as u16)
     };
     built.handles = numbers(0, neighbour::handles_named(n), 7, size + 1).collect();
-    for rule in ["handles", "root", "left", "right", "over", "all"] {
+    let bounds = ["handles", "root", "left", "right", "over", "all"];
+    let lengths = ["lengths", "long", "zero-lengths", "false-split", "long-split"];
+    for rule in bounds.into_iter().chain(lengths) {
         let mut stores = built.clone();
         match rule {
             "root" if n > 0 => stores.left[0] = n as u16,
@@ -363,6 +374,19 @@ fn neighbourvectors_of(text: &mut String, keys: &[u64], seed: u64, mut built: St
             "all" => {
                 stores.left = numbers(0, n, 17, size + 2).collect();
                 stores.right = numbers(0, n, 17, size + 2).collect();
+            }
+            "lengths" if n > 0 => {
+                stores.lengths.truncate(1);
+                stores.lengths.extend(numbers(1, n, 19, 66).map(|length| length as u8));
+            }
+            "long" if n > 0 => stores.lengths[root] = 64,
+            "zero-lengths" => stores.lengths.fill(0),
+            "false-split" | "long-split" => {
+                let split = n / 3 + 1;
+                stores.handles.fill(split as u16);
+                if split < n {
+                    stores.lengths[split] = if rule == "false-split" { 60 } else { 64 };
+                }
             }
             _ => {}
         }

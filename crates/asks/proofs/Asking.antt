@@ -10,8 +10,8 @@ use Rattle.refusals.specs.declared.Refusal.{Refusal}
 use Rattle.tables.specs.Tables.{smaller}
 use Rattle.stores.specs.Stores.{Stores, Seeds}
 use Rattle.callask.specs.Ask.{CallSaid, row, absent, refused, callSays}
-use Rattle.neighbour.specs.Ask.{place, saidByNeighbour, standsAt, neighbourSays}
-use Rattle.index.specs.Answers.{rowOf, probesOf, Answers}
+use Rattle.neighbour.specs.Ask.{place, saidByNeighbour, standsAt}
+use Rattle.index.specs.Answers.{neighbourOver, rowOf, probesOf, Answers}
 use Rattle.places.specs.declared.Place.{Place}
 use Rattle.places.specs.declared.NeighbourAnswer.the-variants.{At, Refused}
 use Rattle.rowoutput.specs.Output.{askText}
@@ -47,7 +47,7 @@ neighbour-refuses-none r c n s e = differ (cc)
 
 module _ {keys : List ℕ} {b : ℕ} {s : Seeds} {S : Stores} (A : Answers keys b s S) (x : ℕ) where
   pub neighbour-refused : (r : Refusal)
-      → saidByNeighbour (Refused r) ≡ neighbourSays keys (S .handles) (S .left) (S .right) (s .three) x → ⊥
+      → saidByNeighbour (Refused r) ≡ neighbourOver keys S (s .three) x → ⊥
   neighbour-refused r e =
       neighbour-refuses-none r (smaller keys x) (probesOf keys x) (standsAt keys x (smaller keys x)) (e ∙ A .counts x)
 
@@ -55,7 +55,7 @@ module _ {keys : List ℕ} {b : ℕ} {s : Seeds} {S : Stores} (A : Answers keys 
   call-refused r e =
       call-refuses-none (standsAt keys x (smaller keys x)) (smaller keys x) (number r) (names r) (e ∙ A .calls x)
 
-  pub ask-said : (p : Place) (call : Called) → saidByNeighbour (At p) ≡ neighbourSays keys (S .handles) (S .left) (S .right) (s .three) x
+  pub ask-said : (p : Place) (call : Called) → saidByNeighbour (At p) ≡ neighbourOver keys S (s .three) x
       → saidOf call ≡ callSays keys b (s .one) (s .two) (S .cells) x
       → askLines keys x ≡ askText x call (p .before) (p .probes)
   ask-said p call e f =

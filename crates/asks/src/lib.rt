@@ -10,6 +10,8 @@ ghost use Rattle.asks.specs.Inner.{Prints};
 use digits::Next;
 use index::CallAnswer;
 use index::NeighbourAnswer;
+use index::call_ask;
+use index::neighbour_ask;
 use rowoutput::Called;
 use rowoutput::write_ask;
 
@@ -22,18 +24,20 @@ fn answer_ask(
     handles: &[u16],
     left: &[u16],
     right: &[u16],
+    lengths: &[u8],
     x: u64,
     out: &mut [u8],
     i: usize,
 ) -> Next
-    requires { ⌜ Answers (now keys) b (same seed) (asked (now cells) (now handles) (now left) (now right)) ⌝ }
+    requires { ⌜ Answers (now keys) b (same seed) (asked (now cells) (now handles) (now left) (now right)
+        (now lengths)) ⌝ }
     ensures { λ r. ⌜ Writes (askLines (now (keys .entry)) x) (now (out .entry)) i (now (out .exit)) r ⌝ }
 {
-    let NeighbourAnswer::At(place) = index::neighbour_ask(keys, seed, handles, left, right, x)
+    let NeighbourAnswer::At(place) = neighbour_ask(keys, seed, handles, left, right, lengths, x)
     else {
         return Next::Off;
     };
-    match index::call_ask(keys, b, seed, seed, cells, x) {
+    match call_ask(keys, b, seed, seed, cells, x) {
         CallAnswer::Row(row) => write_ask(out, i, x, Called::Row(row), place.before, place.probes),
         CallAnswer::Absent => write_ask(out, i, x, Called::Absent, place.before, place.probes),
         CallAnswer::Refused(_) => Next::Off,
@@ -49,11 +53,13 @@ pub fn answer_asks(
     handles: &[u16],
     left: &[u16],
     right: &[u16],
+    lengths: &[u8],
     asks: &[u64],
     out: &mut [u8],
     i: usize,
 ) -> Next
-    requires { ⌜ Answers (now keys) b (same seed) (asked (now cells) (now handles) (now left) (now right)) ⌝ }
+    requires { ⌜ Answers (now keys) b (same seed) (asked (now cells) (now handles) (now left) (now right)
+        (now lengths)) ⌝ }
     ensures { λ r.
         ⌜ Prints (texts (askLines (now (keys .entry))) (now (asks .entry)))
         (now (out .entry)) i (now (out .exit)) r ⌝ }
@@ -64,8 +70,19 @@ pub fn answer_asks(
     let mut k = 0;
     let mut at = i;
     while k < asks.len() {
-        let Next::At(j) = answer_ask(keys, b, seed, cells, handles, left, right, asks[k], out, at)
-        else {
+        let Next::At(j) = answer_ask(
+            keys,
+            b,
+            seed,
+            cells,
+            handles,
+            left,
+            right,
+            lengths,
+            asks[k],
+            out,
+            at,
+        ) else {
             return Next::Off;
         };
         at = j;

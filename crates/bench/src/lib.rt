@@ -74,13 +74,14 @@ pub extern "C" fn index_neighbour_ask(
     handles: &[u16],
     left: &[u16],
     right: &[u16],
+    lengths: &[u8],
     x: u64,
 ) -> u64
     ensures { λ c. ⌜ c ≡ neighbourCode
         (neighbourSays (now (keys .entry))
-        (now (handles .entry)) (now (left .entry)) (now (right .entry)) seed3 x) ⌝ }
+        (now (handles .entry)) (now (left .entry)) (now (right .entry)) (now (lengths .entry)) seed3 x) ⌝ }
 {
-    let a = neighbour::neighbour_ask(keys, seed3, handles, left, right, x);
+    let a = neighbour::neighbour_ask(keys, seed3, handles, left, right, lengths, x);
     match a {
         NeighbourAnswer::At(p) => (p.before as u64) ^ ((p.probes as u64) << 32) ^ flag(p.stands),
         NeighbourAnswer::Refused(r) => refused(r),
@@ -99,11 +100,14 @@ pub extern "C" fn index_full_build(
     left: &mut [u16],
     right: &mut [u16],
     work: &mut [u16],
+    lengths: &mut [u8],
 ) -> u64
     ensures { λ c. ⌜ Coded (λ said. FullBuilt (now (keys .entry)) b (seeds seed1 seed2 seed3)
-        (lent (now (cells .entry)) (now (handles .entry)) (now (left .entry)) (now (right .entry)) (now (work .entry)))
+        (lent (now (cells .entry)) (now (handles .entry)) (now (left .entry)) (now (right .entry)) (now (work .entry))
+        (now (lengths .entry)))
         said
-        (lent (now (cells .exit)) (now (handles .exit)) (now (left .exit)) (now (right .exit)) (now (work .exit)))) c ⌝ }
+        (lent (now (cells .exit)) (now (handles .exit)) (now (left .exit)) (now (right .exit)) (now (work .exit))
+        (now (lengths .exit)))) c ⌝ }
 {
     verdict(full::full_build(
         keys,
@@ -116,5 +120,6 @@ pub extern "C" fn index_full_build(
         left,
         right,
         work,
+        lengths,
     ))
 }

@@ -24,7 +24,7 @@ row-fits a b h l = let small : a ≤ 65535 = omega arith in mul-le-mul small l
 
 -- the cells that are lent, as refusal 4 judges them
 abbrev has : List ℕ → Sizes
-has cells = sizesOf (asked cells [] [] [])
+has cells = sizesOf (asked cells [] [] [] [])
 
 pub asks-fit : (n b : ℕ) (cells : List ℕ) {short : ℕ} → short ≡ shortStore (has cells) (callSizes n b) → short ≤ 0
     → callCells n b ≤ length cells
@@ -32,7 +32,8 @@ asks-fit n b cells is h = none-short (has cells) (callSizes n b) (omega arith) .
 
 fit-asks : (n b : ℕ) (cells : List ℕ) → callCells n b ≤ length cells → shortStore (has cells) (callSizes n b) ≡ 0
 fit-asks n b cells l =
-    all-fit (has cells) (callSizes n b) (record { cells = l; handles = zero-le; left = zero-le; right = zero-le; work = zero-le })
+    all-fit (has cells) (callSizes n b)
+    (record { cells = l; handles = zero-le; left = zero-le; right = zero-le; work = zero-le; lengths = zero-le })
 
 module _ (keys : List ℕ) (b seed₁ seed₂ : ℕ) (cells : List ℕ) (x : ℕ) where
   pub says-short : length keys ≤ 32768 → 2 ≤ b → b ≤ 256 → {short : ℕ}

@@ -47,7 +47,7 @@ ruleSays keys b seed₁ seed₂ cells x =
 -- the refusals before the rule, the lowest number first
 unfoldable pub callSays : List ℕ → ℕ → ℕ → ℕ → List ℕ → ℕ → CallSaid
 callSays keys b seed₁ seed₂ cells x =
-    let short = shortStore (sizesOf (asked cells [] [] [])) (callSizes (length keys) b) in
+    let short = shortStore (sizesOf (asked cells [] [] [] [])) (callSizes (length keys) b) in
     cond (ltb mostKeys (length keys)) (refused 1 0)
     (cond (ltb b 2) (refused 2 0)
     (cond (ltb 256 b) (refused 2 0)

@@ -71,6 +71,7 @@ pub fn call_ask(keys: &[u64], b: usize, seed1: u64, seed2: u64, cells: &[u16], x
         left: 0,
         right: 0,
         work: 0,
+        lengths: 0,
     };
     let short = stores::short_store(have, stores::call_sizes(n, b));
     if 0 < short {

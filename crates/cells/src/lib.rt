@@ -97,3 +97,15 @@ pub fn clear(s: &mut [u16], m: usize)
         i += 1;
     }
 }
+
+// The same of bytes.
+pub fn clear_bytes(bytes: &mut [u8], m: usize)
+    requires { ⌜ m ≤ length (now bytes) ⌝ }
+    ensures { λ _. ⌜ now (bytes .exit) ≡ cleared m (now (bytes .entry)) ⌝ }
+{
+    let mut at = 0;
+    while at < m {
+        bytes[at] = 0;
+        at += 1;
+    }
+}

@@ -36,11 +36,11 @@ module _ (T : List ℕ) (lens : ℕ → ℕ) (x : ℕ) where
   not-accepted f upper m fails =
       by-test (accepted T lens x f upper m) (λ e. absurd (fails (accepted-means T lens x f upper m e))) sym
 
-  pub last-test : (f upper m : ℕ) → 0 < m → m < length T → f ≤ lens m → lens m < upper
-      → agrees T x m (lens m) ≡ accepted T lens x f upper m
+  pub last-test : (f upper m l : ℕ) → l ≡ lens m → 0 < m → m < length T → f ≤ l → l < upper
+      → agrees T x m l ≡ accepted T lens x f upper m
   unfolding accepted
-  last-test f upper m h l g s =
-      rw (le-leb 1 m h, lt-ltb m (length T) l, le-leb f (lens m) g, lt-ltb (lens m) upper s)
+  last-test f upper m l is p h g s =
+      rw (← is, le-leb 1 m p, lt-ltb m (length T) h, le-leb f l g, lt-ltb l upper s)
 
   -- one probe, at f, where the look-up gave m
   module _ (find : ℕ → ℕ) (node upper f m : ℕ) (e : f ≡ probeAt (lens node) upper) (e′ : m ≡ find f) where

@@ -1,4 +1,5 @@
--- What only the contracts of inner functions need: the cells of map 3, and the state of the walk between probes.
+-- What only the contracts of inner functions need: the stores that probes read, and the state of the walk between
+-- probes.
 use mathlib.Core.Path.{_≡_}
 use mathlib.Core.Bool.{cond}
 use mathlib.Core.List.{List}
@@ -17,11 +18,12 @@ use Rattle.descent.specs.declared.Descended.{Descended}
 abbrev pub handleValue : ℕ → (keys handles : List ℕ) → ℕ → ℕ → ℕ → ℕ
 handleValue b keys handles seed x f = mapValue handles (handleCount (length (delimiters b keys))) seed (prefixItem x f)
 
--- n counts the delimiters, and map 3 has cells enough for them
-pub record Lent (b : ℕ) (keys : List ℕ) (n : ℕ) (handles : List ℕ) : Type 0 where
+-- n counts the delimiters, map 3 has cells enough for them, and the store of lengths an entry for each
+pub record Lent (b : ℕ) (keys : List ℕ) (n : ℕ) (handles lengths : List ℕ) : Type 0 where
   pub counted : CountOf b keys n
   pub few : n ≤ 32768
   pub cells : cellCount (n - 2) ≤ length handles
+  pub entries : n ≤ length lengths
 
 -- the node of a walk is a split, and lower its length
 pub record Node (b : ℕ) (keys : List ℕ) (lens : ℕ → ℕ) (node lower : ℕ) : Type 0 where

@@ -1,17 +1,18 @@
 // The probes of the walk (document 01, "The walk", 3): from the root to the node where they end, over the delimiters
-// of buckets of b rows; with b = 1 they are the table itself.
+// of buckets of b rows; with b = 1 they are the table itself. The lengths of the splits are read from their store
+// (request Six) and taken as they stand, so a probe reads a row of the table only to compare its first bits.
 //
-// Every function is proved and the crate assumes nothing. Its functions ask for a table and cells that were seen to
+// Every function is proved and the crate assumes nothing. Its functions ask for a table and stores that were seen to
 // fit.
 ghost use mathlib.Core.Path.{_≡_};
 ghost use Prim.Native.Nat.{_+_, _≤_, _<_};
+ghost use lib.ListN.{length};
 ghost use Rattle.words.specs.Fat.{Fattest};
-ghost use Rattle.tables.specs.Delimiters.{delimiters};
-ghost use Rattle.splits.specs.Splits.{len};
-ghost use Rattle.splits.specs.Inner.{SplitOf, CountOf};
-ghost use Rattle.walks.specs.Walk.{onPath, accepted};
+ghost use Rattle.tables.specs.Delimiters.{delimiters, Bucketed};
+ghost use Rattle.splits.specs.Inner.{CountOf};
+ghost use Rattle.walks.specs.Walk.{agrees, accepted, storedLength};
 ghost use Rattle.descent.specs.Inner.{handleValue, Lent, Node, Stepped, Reached};
-use splits::split::len_at;
+use splits::split::length_at;
 use tables::delimiter::delimiter_at;
 use tables::lengths::handle_count;
 use words::fattest::fattest;
@@ -32,32 +33,41 @@ pub struct Descended {
     pub probes: usize,
 }
 
-// Whether x has the string of split m, the first l bits of its key.
-pub fn on_path(keys: &[u64], b: usize, x: u64, m: usize, l: u32) -> bool
-    requires { ⌜ SplitOf b (now keys) m × (l ≡ len (delimiters b (now keys)) m) ⌝ }
-    ensures { λ r. ⌜ r ≡ onPath (delimiters b (now (keys .entry))) x m ⌝ }
+// Whether x has the first l bits of row m.
+pub fn agrees(keys: &[u64], b: usize, x: u64, m: usize, l: u32) -> bool
+    requires { ⌜ Bucketed b (now keys) × (m < length (delimiters b (now keys))) × (l ≤ 64) ⌝ }
+    ensures { λ r. ⌜ r ≡ agrees (delimiters b (now (keys .entry))) x m l ⌝ }
 {
     l <= shared_bits(x, delimiter_at(keys, b, m))
 }
 
 // Whether the walk goes to m, which map 3 gave for the first f bits of x.
-fn accepts(keys: &[u64], b: usize, n: usize, x: u64, f: u32, last: u32, m: usize) -> bool
-    requires { ⌜ CountOf b (now keys) n × (0 < n) ⌝ }
-    ensures { λ r. ⌜ r ≡ accepted (delimiters b (now (keys .entry))) (len (delimiters b (now (keys .entry)))) x f
+fn accepts(
+    keys: &[u64],
+    b: usize,
+    n: usize,
+    lengths: &[u8],
+    x: u64,
+    f: u32,
+    last: u32,
+    m: usize,
+) -> bool
+    requires { ⌜ CountOf b (now keys) n × (0 < n) × (n ≤ length (now lengths)) × (last ≤ 63) ⌝ }
+    ensures { λ r. ⌜ r ≡ accepted (delimiters b (now (keys .entry))) (storedLength (now (lengths .entry))) x f
         (last + 1) m ⌝ }
 {
     // 1 <= m < n in one comparison: 0 wraps around to the largest number.
     if std::num::wrapping_sub_usize(m, 1) >= n - 1 {
         return false;
     }
-    let l = len_at(keys, b, m);
+    let l = length_at(lengths, m);
     if l < f {
         return false;
     }
     if l > last {
         return false;
     }
-    on_path(keys, b, x, m, l)
+    agrees(keys, b, x, m, l)
 }
 
 // The length that is probed: the 2-fattest number above lower and up to last.
@@ -75,22 +85,24 @@ fn probe(
     n: usize,
     seed3: u64,
     handles: &[u16],
+    lengths: &[u8],
     x: u64,
     node: usize,
     lower: u32,
     last: u32,
 ) -> State
-    requires { ⌜ Lent b (now keys) n (now handles) × Node b (now keys) (len (delimiters b (now keys))) node lower × (lower < last) ×
+    requires { ⌜ Lent b (now keys) n (now handles) (now lengths) × Node b (now keys) (storedLength (now lengths)) node lower
+        × (lower < last) ×
         (last ≤ 63) ⌝ }
-    ensures { λ s. ⌜ Stepped (delimiters b (now (keys .entry))) (len (delimiters b (now (keys .entry)))) x
+    ensures { λ s. ⌜ Stepped (delimiters b (now (keys .entry))) (storedLength (now (lengths .entry))) x
         (handleValue b (now (keys .entry)) (now (handles .entry)) seed3 x) node (last + 1) s ⌝ }
 {
     let f = probe_length(lower, last);
     let m = cells::look_up(handles, handle_count(n), seed3, prefix_item(x, f)) as usize;
-    if accepts(keys, b, n, x, f, last, m) {
+    if accepts(keys, b, n, lengths, x, f, last, m) {
         return State {
             node: m,
-            lower: len_at(keys, b, m),
+            lower: length_at(lengths, m),
             last: last,
         };
     }
@@ -108,12 +120,13 @@ pub fn descend(
     n: usize,
     seed3: u64,
     handles: &[u16],
+    lengths: &[u8],
     x: u64,
     root: usize,
     l: u32,
 ) -> Descended
-    requires { ⌜ Lent b (now keys) n (now handles) × Node b (now keys) (len (delimiters b (now keys))) root l ⌝ }
-    ensures { λ d. ⌜ Reached (delimiters b (now (keys .entry))) (len (delimiters b (now (keys .entry)))) x
+    requires { ⌜ Lent b (now keys) n (now handles) (now lengths) × Node b (now keys) (storedLength (now lengths)) root l ⌝ }
+    ensures { λ d. ⌜ Reached (delimiters b (now (keys .entry))) (storedLength (now (lengths .entry))) x
         (handleValue b (now (keys .entry)) (now (handles .entry)) seed3 x) root d ⌝ }
 {
     let mut node = root;
@@ -121,7 +134,7 @@ pub fn descend(
     let mut last: u32 = 63;
     let mut probes: usize = 0;
     while lower < last {
-        let s = probe(keys, b, n, seed3, handles, x, node, lower, last);
+        let s = probe(keys, b, n, seed3, handles, lengths, x, node, lower, last);
         node = s.node;
         lower = s.lower;
         last = s.last;

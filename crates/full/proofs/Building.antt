@@ -20,7 +20,8 @@ use Rattle.stores.proofs.Clearing.{cleared-beyond}
 use Rattle.call.specs.Inner.{Buildable, KeysBuilt, PrefixesBuilt}
 use Rattle.call.proofs.Joining.{fewer-work, first-beyond, second-beyond, both-swept, both-filled}
 use Rattle.neighbour.specs.Inner.{Storable, StoresBuilt}
-use Rattle.neighbour.proofs.Storing.{storable-table, handles-beyond, left-beyond, right-beyond, stores-swept}
+use Rattle.neighbour.proofs.Storing.{storable-table, stores-swept}
+use Rattle.neighbour.proofs.Storing.{handles-beyond, left-beyond, right-beyond, lengths-beyond}
 use Rattle.full.specs.Build.{in₁, in₂, in₃, FullBuilt, jam, accepted}
 use Rattle.full.specs.Inner.{Ready, MapsBuilt}
 use Rattle.full.specs.declared.Maps.{Maps}
@@ -48,8 +49,9 @@ module _ {keys : List ℕ} {b : ℕ} {S : Stores} (R : Ready keys b S) where
   -- stores that are still as long have the named lengths
   pub still-fits : (T : Stores) {w : Sizes} → w ≡ fullSizes (length keys) b → length (T .cells) ≡ length (S .cells)
       → length (T .handles) ≡ length (S .handles) → length (T .left) ≡ length (S .left)
-      → length (T .right) ≡ length (S .right) → length (T .work) ≡ length (S .work) → Fits (sizesOf T) w
-  still-fits T is c h l r k =
+      → length (T .right) ≡ length (S .right) → length (T .work) ≡ length (S .work)
+      → length (T .lengths) ≡ length (S .lengths) → Fits (sizesOf T) w
+  still-fits T is c h l r k m =
       let F = passed .fits in
       rw is (record {
         cells = rw c (F .cells);
@@ -57,15 +59,17 @@ module _ {keys : List ℕ} {b : ℕ} {S : Stores} (R : Ready keys b S) where
         left = rw l (F .left);
         right = rw r (F .right);
         work = rw k (F .work);
+        lengths = rw m (F .lengths);
       })
 
   pub storable : {work : List ℕ} → length work ≡ length (S .work)
-      → Storable 1 keys (S .handles) (S .left) (S .right) work
+      → Storable 1 keys (S .handles) (S .left) (S .right) work (S .lengths)
   storable {work} w =
       let P = passed in
       let n = length keys in
-      storable-table keys (S .handles) (S .left) (S .right) work (R .table) (P .few) (P .fits .handles) (P .fits .left)
-      (P .fits .right) (omega (arith, fewer-work (handleCount n) n (omega arith), P .fits .work))
+      storable-table keys (S .handles) (S .left) (S .right) work (S .lengths) (R .table) (P .few) (P .fits .handles)
+      (P .fits .left) (P .fits .right) (omega (arith, fewer-work (handleCount n) n (omega arith), P .fits .work))
+      (P .fits .lengths)
 
 -- the work is as it was past its named length
 work-beyond : (n : ℕ) (work work′ : List ℕ) → work′ ≡ cleared (callWork n) work
@@ -84,7 +88,7 @@ module _ {keys : List ℕ} {b : ℕ} {S : Stores} (R : Ready keys b S) where
       (B₁ : KeysBuilt keys b seed₁ (S .cells) (S .work) size₁ cells₁ work₁) where
     pub first-jams : (seed₂ seed₃ : ℕ) → 0 < size₁
         → MapsBuilt keys b (seeds seed₁ seed₂ seed₃) S (Jammed 1 size₁)
-        (lent cells₁ (S .handles) (S .left) (S .right) work₁)
+        (lent cells₁ (S .handles) (S .left) (S .right) work₁ (S .lengths))
     unfolding MapsBuilt
     first-jams seed₂ seed₃ h = (
       in₁ (B₁ .refused h .0),
@@ -94,6 +98,7 @@ module _ {keys : List ℕ} {b : ℕ} {S : Stores} (R : Ready keys b S) where
         left = refl;
         right = refl;
         work = work-beyond n (S .work) work₁ (B₁ .swept);
+        lengths = refl;
       },
     )
 
@@ -101,7 +106,7 @@ module _ {keys : List ℕ} {b : ℕ} {S : Stores} (R : Ready keys b S) where
         (B₂ : PrefixesBuilt keys b seed₂ cells₁ work₁ size₂ cells₂ work₂) where
       pub second-jams : (seed₃ : ℕ) → 0 < size₂
           → MapsBuilt keys b (seeds seed₁ seed₂ seed₃) S (Jammed 2 size₂)
-          (lent cells₂ (S .handles) (S .left) (S .right) work₂)
+          (lent cells₂ (S .handles) (S .left) (S .right) work₂ (S .lengths))
       unfolding MapsBuilt
       second-jams seed₃ h = (
         in₂ (B₁ .accepted (omega arith) .0) (B₂ .part .refused h .0),
@@ -111,13 +116,16 @@ module _ {keys : List ℕ} {b : ℕ} {S : Stores} (R : Ready keys b S) where
           left = refl;
           right = refl;
           work = work-beyond n (S .work) work₂ (both-swept A B₁ B₂);
+          lengths = refl;
         },
       )
 
-      module _ {seed₃ : ℕ} {handles₃ left₃ right₃ work₃ : List ℕ} {size₃ : ℕ} (h₂ : size₂ ≤ 0)
-          (B₃ : StoresBuilt (delimiters 1 keys) seed₃ (S .handles) (S .left) (S .right) work₂ size₃ handles₃ left₃ right₃ work₃) where
+      module _ {seed₃ : ℕ} {handles₃ left₃ right₃ work₃ lengths₃ : List ℕ} {size₃ : ℕ} (h₂ : size₂ ≤ 0)
+          (B₃ : StoresBuilt (delimiters 1 keys) seed₃ (S .handles) (S .left) (S .right) work₂ (S .lengths) size₃
+          handles₃ left₃ right₃ work₃ lengths₃) where
         -- the table is the delimiters of buckets of one row
-        C₃ : StoresBuilt keys seed₃ (S .handles) (S .left) (S .right) work₂ size₃ handles₃ left₃ right₃ work₃
+        C₃ : StoresBuilt keys seed₃ (S .handles) (S .left) (S .right) work₂ (S .lengths) size₃
+            handles₃ left₃ right₃ work₃ lengths₃
         C₃ = rw (delimiters-one keys) at B₃
 
         -- the work that map 3 leaves is that of map 1, which was longer
@@ -129,7 +137,7 @@ module _ {keys : List ℕ} {b : ℕ} {S : Stores} (R : Ready keys b S) where
 
         pub third-jams : 0 < size₃
             → MapsBuilt keys b (seeds seed₁ seed₂ seed₃) S (Jammed 3 size₃)
-            (lent cells₂ handles₃ left₃ right₃ work₃)
+            (lent cells₂ handles₃ left₃ right₃ work₃ lengths₃)
         unfolding MapsBuilt
         third-jams h = (
           in₃ (B₁ .accepted (omega arith) .0) (B₂ .part .accepted (omega arith) .0) (C₃ .map₃ .refused h .0),
@@ -139,12 +147,13 @@ module _ {keys : List ℕ} {b : ℕ} {S : Stores} (R : Ready keys b S) where
             left = left-beyond C₃;
             right = right-beyond C₃;
             work = work-beyond n (S .work) work₃ swept;
+            lengths = lengths-beyond C₃;
           },
         )
 
         pub all-built : size₃ ≤ 0
             → MapsBuilt keys b (seeds seed₁ seed₂ seed₃) S Built
-            (lent cells₂ handles₃ left₃ right₃ work₃)
+            (lent cells₂ handles₃ left₃ right₃ work₃ lengths₃)
         unfolding MapsBuilt
         all-built h =
             let A₃ = C₃ .map₃ .accepted (omega arith) in (
@@ -155,7 +164,7 @@ module _ {keys : List ℕ} {b : ℕ} {S : Stores} (R : Ready keys b S) where
               },
               record {
                 call = both-filled A B₁ B₂ (omega arith) (omega arith);
-                neighbour = record { handles = A₃ .1; left = C₃ .lefts; right = C₃ .rights };
+                neighbour = record { handles = A₃ .1; left = C₃ .lefts; right = C₃ .rights; lengths = C₃ .lens };
                 work = swept;
               },
             )

@@ -27,6 +27,7 @@ same-refusal {v = v} {v′} e f none same =
       lefts = ap (λ (T : Stores). T .left) same;
       rights = ap (λ (T : Stores). T .right) same;
       works = ap (λ (T : Stores). T .work) same;
+      lengths = ap (λ (T : Stores). T .lengths) same;
     }
 
 pub build-determined : BuildDetermined
@@ -54,4 +55,5 @@ build-determined keys b s S v S₁ v′ S₂ (accepted j N e F) (accepted j′ N
       lefts = f .left ∙ sym (g .left);
       rights = f .right ∙ sym (g .right);
       works = F .work ∙ sym (G .work);
+      lengths = f .lengths ∙ sym (g .lengths);
     }

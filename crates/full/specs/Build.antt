@@ -1,5 +1,5 @@
--- Requests Seven and Five, with document 01's "Refusal numbers and their order": one build of both indexes, what it says
--- and what it leaves.
+-- Requests Seven, Five and Six, with document 01's "Refusal numbers and their order": one build of both indexes, what
+-- it says and what it leaves in the six stores.
 use mathlib.Core.Path.{_≡_}
 use mathlib.Core.List.{List}
 use Prim.Native.Nat.{ℕ}
@@ -38,8 +38,8 @@ pub record FullFilled (keys : List ℕ) (b : ℕ) (s : Seeds) (S S′ : Stores) 
   pub neighbour : NeighbourFilled keys (s .three) S S′
   pub work : S′ .work ≡ cleared (callWork (length keys)) (S .work)
 
--- the full build: a refusal of 1 to 4 changes nothing; refusal 5 names the first jammed map, with the size of its largest
--- jam, and leaves all stores 0 over their named lengths; otherwise both indexes are there
+-- the full build: a refusal of 1 to 4 changes nothing; refusal 5 names the first jammed map, with the size of its
+-- largest jam, and leaves all six stores 0 over their named lengths; otherwise both indexes are there
 pub data FullBuilt (keys : List ℕ) (b : ℕ) (s : Seeds) (S : Stores) (said : BuildSaid) (S′ : Stores) : Type 0 where
   refusal : (number names : ℕ) → fullJudged keys b S ≡ refused number names → said ≡ refused number names → S′ ≡ S
       → FullBuilt keys b s S said S′

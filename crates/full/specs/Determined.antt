@@ -21,6 +21,7 @@ pub record OneFullBuild (keys : List ℕ) (b : ℕ) (s : Seeds) (v : Verdict) (S
   pub lefts : S .left ≡ S′ .left
   pub rights : S .right ≡ S′ .right
   pub works : S .work ≡ S′ .work
+  pub lengths : S .lengths ≡ S′ .lengths
 
 -- any two outcomes of a build that its statement allows on the same input are one
 abbrev pub BuildDetermined : Type 0

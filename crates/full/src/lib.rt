@@ -1,4 +1,5 @@
-// The build of both indexes in one operation (requests Seven and Five), so that none is ever had without the other.
+// The build of both indexes in one operation (requests Seven, Five and Six), so that none is ever had without the
+// other.
 //
 // Every function is proved and the crate assumes nothing. The entry `full_build` has no `requires`: whatever table,
 // stores and seeds it is lent, it builds or refuses as specs/Build.antt says.
@@ -20,8 +21,8 @@ enum Maps {
     Jammed { map: u8, size: usize },
 }
 
-// Maps 1, 2 and 3 with the bounds, up to the first map that has a jam. After a jam the stores hold what was written so
-// far.
+// Maps 1, 2 and 3 with the bounds and the lengths, up to the first map that has a jam. After a jam the stores hold what
+// was written so far.
 fn build_maps(
     keys: &[u64],
     b: usize,
@@ -33,12 +34,15 @@ fn build_maps(
     left: &mut [u16],
     right: &mut [u16],
     work: &mut [u16],
+    lengths: &mut [u8],
 ) -> Maps
-    requires { ⌜ Ready (now keys) b (lent (now cells) (now handles) (now left) (now right) (now work)) ⌝ }
+    requires { ⌜ Ready (now keys) b (lent (now cells) (now handles) (now left) (now right) (now work) (now lengths)) ⌝ }
     ensures { λ r. ⌜ MapsBuilt (now (keys .entry)) b (seeds seed1 seed2 seed3)
-        (lent (now (cells .entry)) (now (handles .entry)) (now (left .entry)) (now (right .entry)) (now (work .entry)))
+        (lent (now (cells .entry)) (now (handles .entry)) (now (left .entry)) (now (right .entry)) (now (work .entry))
+        (now (lengths .entry)))
         r
-        (lent (now (cells .exit)) (now (handles .exit)) (now (left .exit)) (now (right .exit)) (now (work .exit))) ⌝ }
+        (lent (now (cells .exit)) (now (handles .exit)) (now (left .exit)) (now (right .exit)) (now (work .exit))
+        (now (lengths .exit))) ⌝ }
 {
     let one = build_keys(keys, b, seed1, cells, work);
     if 0 < one {
@@ -48,7 +52,7 @@ fn build_maps(
     if 0 < two {
         return Maps::Jammed { map: 2, size: two };
     }
-    let three = build_stores(keys, 1, seed3, handles, left, right, work);
+    let three = build_stores(keys, 1, seed3, handles, left, right, work, lengths);
     if 0 < three {
         return Maps::Jammed {
             map: 3,
@@ -70,12 +74,15 @@ fn build_all(
     left: &mut [u16],
     right: &mut [u16],
     work: &mut [u16],
+    lengths: &mut [u8],
 ) -> Verdict
-    requires { ⌜ Ready (now keys) b (lent (now cells) (now handles) (now left) (now right) (now work)) ⌝ }
+    requires { ⌜ Ready (now keys) b (lent (now cells) (now handles) (now left) (now right) (now work) (now lengths)) ⌝ }
     ensures { λ r. ⌜ FullBuilt (now (keys .entry)) b (seeds seed1 seed2 seed3)
-        (lent (now (cells .entry)) (now (handles .entry)) (now (left .entry)) (now (right .entry)) (now (work .entry)))
+        (lent (now (cells .entry)) (now (handles .entry)) (now (left .entry)) (now (right .entry)) (now (work .entry))
+        (now (lengths .entry)))
         (saidByBuild r)
-        (lent (now (cells .exit)) (now (handles .exit)) (now (left .exit)) (now (right .exit)) (now (work .exit))) ⌝ }
+        (lent (now (cells .exit)) (now (handles .exit)) (now (left .exit)) (now (right .exit)) (now (work .exit))
+        (now (lengths .exit))) ⌝ }
 {
     match build_maps(
         keys,
@@ -88,11 +95,12 @@ fn build_all(
         left,
         right,
         work,
+        lengths,
     ) {
         Maps::Built => Verdict::Taken,
         Maps::Jammed { map, size } => {
             let want = stores::full_sizes(keys.len(), b);
-            stores::clear_stores(want, cells, handles, left, right, work);
+            stores::clear_stores(want, cells, handles, left, right, work, lengths);
             Verdict::Jammed { map, size }
         }
     }
@@ -110,11 +118,14 @@ pub fn full_build(
     left: &mut [u16],
     right: &mut [u16],
     work: &mut [u16],
+    lengths: &mut [u8],
 ) -> Verdict
     ensures { λ r. ⌜ FullBuilt (now (keys .entry)) b (seeds seed1 seed2 seed3)
-        (lent (now (cells .entry)) (now (handles .entry)) (now (left .entry)) (now (right .entry)) (now (work .entry)))
+        (lent (now (cells .entry)) (now (handles .entry)) (now (left .entry)) (now (right .entry)) (now (work .entry))
+        (now (lengths .entry)))
         (saidByBuild r)
-        (lent (now (cells .exit)) (now (handles .exit)) (now (left .exit)) (now (right .exit)) (now (work .exit))) ⌝ }
+        (lent (now (cells .exit)) (now (handles .exit)) (now (left .exit)) (now (right .exit)) (now (work .exit))
+        (now (lengths .exit))) ⌝ }
 {
     match stores::named_lengths(keys.len(), b) {
         Lend::Refused(refusal) => Verdict::Refused(refusal),
@@ -125,6 +136,7 @@ pub fn full_build(
                 left: left.len(),
                 right: right.len(),
                 work: work.len(),
+                lengths: lengths.len(),
             };
             match stores::judge(keys, have, want) {
                 Judged::Refused(refusal) => Verdict::Refused(refusal),
@@ -140,6 +152,7 @@ pub fn full_build(
                         left,
                         right,
                         work,
+                        lengths,
                     )
                 }
             }

@@ -23,6 +23,7 @@ fn shortened(named: Sizes, mask: usize) -> Sizes {
         left: shorter(named.left, mask / 4 % 2),
         right: shorter(named.right, mask / 8 % 2),
         work: shorter(named.work, mask / 16 % 2),
+        lengths: shorter(named.lengths, mask / 32 % 2),
     }
 }
 
@@ -36,6 +37,7 @@ fn lent(mask: usize) -> Sizes {
             left: 0,
             right: 0,
             work: 0,
+            lengths: 0,
         },
     }
 }
@@ -55,7 +57,7 @@ fn print_short(keys: &[u64], mask: usize) {
 
 fn print_masks(keys: &[u64]) {
     let mut mask = 0;
-    while mask < 32 {
+    while mask < 64 {
         print_short(keys, mask);
         mask += 1;
     }
@@ -64,11 +66,11 @@ fn print_masks(keys: &[u64]) {
 // Each line here, and that of too many keys, has all the faults that are judged later.
 fn print_turned(keys: &[u64]) {
     text::word(b"turned");
-    print_said(keys, 3, 31);
+    print_said(keys, 3, 63);
     text::word(b"bucket=1");
-    print_said(keys, 1, 31);
+    print_said(keys, 1, 63);
     text::word(b"bucket=257");
-    print_said(keys, 257, 31);
+    print_said(keys, 257, 63);
 }
 
 fn print_small() {
@@ -83,7 +85,7 @@ fn print_over() {
     let mut keys = [0u64; 32769];
     table::fill(Sample::Spread, Order::Rising, &mut keys);
     text::word(b"keys=32769");
-    print_said(&keys, 257, 31);
+    print_said(&keys, 257, 63);
 }
 
 pub fn print() {

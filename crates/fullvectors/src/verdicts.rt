@@ -15,6 +15,7 @@ fn longer() -> Sizes {
         left: 316,
         right: 316,
         work: 1390,
+        lengths: 316,
     }
 }
 

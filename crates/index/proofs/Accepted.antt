@@ -13,7 +13,7 @@ use Rattle.tables.proofs.Rising.{no-fall-table}
 use Rattle.stores.specs.Sizes.{Fits, fullSizes, neighbourSizes}
 use Rattle.stores.specs.Stores.{Stores, Seeds, sizesOf}
 use Rattle.stores.proofs.Judging.{Passed, judged-passed}
-use Rattle.splits.specs.Splits.{leftEntry, rightEntry, handleItem, handleSplit}
+use Rattle.splits.specs.Splits.{leftEntry, rightEntry, lengthEntry, handleItem, handleSplit}
 use Rattle.splits.proofs.Stores.{entered-length}
 use Rattle.items.specs.Items.{Sorted, handleItems, handleSplits}
 use Rattle.items.proofs.Handling.{length-handles, handle-is, split-is}
@@ -70,7 +70,7 @@ module _ {keys : List ℕ} {b : ℕ} {s : Seeds} {S S′ : Stores} (A : FullAcce
         cellsLong = omega (arith, P .fits .cells, length-drop c (S .cells), length-drop c (S′ .cells));
       }
 
-  pub accepted-fits : Fits (has (S′ .handles) (S′ .left) (S′ .right)) (neighbourSizes (length keys))
+  pub accepted-fits : Fits (has (S′ .handles) (S′ .left) (S′ .right) (S′ .lengths)) (neighbourSizes (length keys))
   accepted-fits =
       let F = A .passed .fits in
       let N = A .filled .neighbour in
@@ -81,12 +81,14 @@ module _ {keys : List ℕ} {b : ℕ} {s : Seeds} {S S′ : Stores} (A : FullAcce
         left = rw (N .left, entered-length n (leftEntry keys) (S .left) (F .left)) (F .left);
         right = rw (N .right, entered-length n (rightEntry keys) (S .right) (F .right)) (F .right);
         work = zero-le;
+        lengths = rw (N .lengths, entered-length n (lengthEntry keys) (S .lengths) (F .lengths)) (F .lengths);
       }
 
   -- and they are what the walk needs
-  pub accepted-stored : Stored keys (mapValue (S′ .handles) (handleCount (length keys)) (s .three)) (S′ .left) (S′ .right)
+  pub accepted-stored : Stored keys (mapValue (S′ .handles) (handleCount (length keys)) (s .three))
+      (S′ .left) (S′ .right) (S′ .lengths)
   accepted-stored =
       let N = A .filled .neighbour in
-      let kept = map-stored keys (s .three) (S .handles) (S′ .handles) (N .handles) in
-      rw (N .left, N .right)
-      (stored-by keys (mapValue (S′ .handles) (handleCount (length keys)) (s .three)) (S .left) (S .right) kept)
+      let look = mapValue (S′ .handles) (handleCount (length keys)) (s .three) in
+      let found = map-stored keys (s .three) (S .handles) (S′ .handles) (N .handles) in
+      rw (N .left, N .right, N .lengths) (stored-by keys look (S .left) (S .right) (S .lengths) found)

@@ -74,14 +74,15 @@ module _ {keys : List ℕ} {b : ℕ} {s : Seeds} {S S′ : Stores} (B : FullBuil
 
   pub counts-answer : Words keys → CountsAnswer keys s S′
   counts-answer w x =
-      sizes-pass keys (S′ .handles) (S′ .left) (S′ .right) (s .three) x (A .passed .few) (accepted-fits A)
-      ∙ stored-says keys (accepted-table A w) (S′ .handles) (S′ .left) (S′ .right) (s .three) x (accepted-stored A)
+      sizes-pass keys (S′ .handles) (S′ .left) (S′ .right) (S′ .lengths) (s .three) x (A .passed .few) (accepted-fits A)
+      ∙ stored-says keys (accepted-table A w) (S′ .handles) (S′ .left) (S′ .right) (S′ .lengths) (s .three) x
+      (accepted-stored A)
 
 pub walks-agree : WalksAgree
 walks-agree keys b s S S′ w B x =
     let A = full-accepted B in
     stored-walk keys (accepted-table A w) x (mapValue (S′ .handles) (handleCount (length keys)) (s .three)) (S′ .left)
-    (S′ .right) (accepted-stored A)
+    (S′ .right) (S′ .lengths) (accepted-stored A)
 
 pub build-answers : BuildAnswers
 build-answers keys b s S S′ w B = record { calls = calls-answer B w; counts = counts-answer B w }

@@ -14,18 +14,21 @@ use Rattle.tables.proofs.Rising.{keys-rise, keys-above}
 use Rattle.stores.specs.Stores.{Stores, Seeds}
 use Rattle.stores.proofs.Judging.{one-to-four}
 use Rattle.items.specs.Items.{prefixItems, handleItems}
+use Rattle.splits.proofs.Parents.{length-first, length-split}
 use Rattle.jams.proofs.Jams.{jamless-not-jammed}
 use Rattle.jams.proofs.Largest.{largest-jammed, largest-some}
 use Rattle.callask.specs.Ask.{row, absent, callSays}
 use Rattle.callask.proofs.Answers.{rule-absent, rule-said}
-use Rattle.walks.specs.Walk.{Walk}
+use Rattle.walks.specs.Walk.{Walk, storeWalk}
+use Rattle.walks.proofs.Answering.{true-lengths}
 use Rattle.neighbour.specs.Ask.{standsAt}
 use Rattle.neighbour.proofs.Asking.{stands-iff, path-probes, ask-six}
 use Rattle.full.specs.Build.{in₁, in₂, in₃, FullBuilt, refusal, jam, accepted}
 use Rattle.index.specs.Answers.{probesOf}
 use Rattle.index.specs.Demands.{Names, BuildRefusesJams, SizeIsTheLargest, PlannedGetsItsRow, RowsAreSorted}
 use Rattle.index.specs.Demands.{OthersAreAbsent, OneKeyForEachRow, Monotone, SearchIsExact, SixAtMost}
-use Rattle.index.proofs.Accepted.{full-accepted, accepted-table}
+use Rattle.index.specs.Demands.{LengthsAreTrue, WalkIsUnchanged}
+use Rattle.index.proofs.Accepted.{full-accepted, accepted-table, accepted-stored}
 use Rattle.index.proofs.Answering.{row-smaller, planned-told, by-rule}
 use Rattle.index.proofs.Answering.{calls-answer, counts-answer, walks-agree}
 
@@ -173,6 +176,16 @@ digits-six L =
     let same : 63 - (63 - (63 - L)) ≡ 63 - L = omega arith in
     rw same at (probes-from (63 - (63 - L)) (omega arith) done .1)
 
+-- request Six
+pub lengths-are-true : LengthsAreTrue
+lengths-are-true keys b s S S′ B =
+    let is = accepted-stored (full-accepted B) .lengths-are in
+    (λ some. is 0 some ∙ length-first keys, λ m h l. is m l ∙ length-split keys m h)
+
+pub walk-is-unchanged : WalkIsUnchanged
+unfolding storeWalk
+walk-is-unchanged keys b s S S′ B x = true-lengths keys x _ _ _ _ (lengths-are-true keys b s S S′ B .1)
+
 -- demand 3
 pub search-is-exact : SearchIsExact
 search-is-exact keys b s S S′ w two B x hx =
@@ -182,7 +195,8 @@ search-is-exact keys b s S S′ w two B x hx =
         standsAt keys x (smaller keys x),
         record {
           says = counts-answer B w x;
-          counted = ap (λ (v : Walk). length (v .probed)) (sym (walks-agree keys b s S S′ w B x));
+          counted = ap (λ (v : Walk). length (v .probed))
+              (sym (walks-agree keys b s S S′ w B x) ∙ walk-is-unchanged keys b s S S′ B x);
           few = path-probes keys T x;
           six = digits-six (sharedByAll keys);
           where-it-stands = stands-iff keys T x;
@@ -192,4 +206,4 @@ search-is-exact keys b s S S′ w two B x hx =
 
 pub six-at-most : SixAtMost
 six-at-most keys seed S x before probes stands e =
-    ask-six before probes stands keys (S .handles) (S .left) (S .right) seed x e
+    ask-six before probes stands keys (S .handles) (S .left) (S .right) (S .lengths) seed x e

@@ -3,13 +3,17 @@ use mathlib.Core.Path.{_≡_}
 use mathlib.Core.Bool.{cond}
 use mathlib.Core.List.{List}
 use Prim.Native.Nat.{ℕ, _^_, _<_}
-use lib.ListN.{length}
+use lib.ListN.{length, getD}
 use Rattle.refusals.specs.Numbers.{taken}
+use Rattle.words.specs.Keys.{prefixItem}
+use Rattle.cells.specs.Cells.{mapValue}
 use Rattle.tables.specs.Tables.{keyAt, smaller}
+use Rattle.tables.specs.Lengths.{handleCount}
 use Rattle.stores.specs.Stores.{Stores, Seeds}
 use Rattle.callask.specs.Ask.{row, absent, callSays}
-use Rattle.walks.specs.Walk.{pathWalk}
-use Rattle.neighbour.specs.Ask.{place, standsAt, neighbourSays}
+use Rattle.splits.specs.Splits.{len}
+use Rattle.walks.specs.Walk.{Walk, walk, pathWalk, storeWalk}
+use Rattle.neighbour.specs.Ask.{NeighbourSaid, place, standsAt, neighbourSays}
 use Rattle.full.specs.Build.{FullBuilt}
 
 -- the keys have 64 bits, as every table that an entry is lent
@@ -19,6 +23,20 @@ Words keys = (i : ℕ) → i < length keys → keyAt keys i < 2 ^ 64
 -- x's row, which is the number of smaller keys, told by `found`; or `none` where x stands in no row
 abbrev pub rowOf : {A : Type 0} → (ℕ → A) → A → List ℕ → ℕ → A
 rowOf found none keys x = cond (standsAt keys x (smaller keys x)) (found (smaller keys x)) none
+
+-- what a neighbour ask says over stores, and the walk over them, which reads the stored lengths
+abbrev pub neighbourOver : List ℕ → Stores → ℕ → ℕ → NeighbourSaid
+neighbourOver keys S seed x = neighbourSays keys (S .handles) (S .left) (S .right) (S .lengths) seed x
+
+abbrev pub walkOver : List ℕ → Stores → ℕ → ℕ → Walk
+walkOver keys S seed x =
+    storeWalk keys x (mapValue (S .handles) (handleCount (length keys)) seed) (S .left) (S .right) (S .lengths)
+
+-- document 01's walk over the same stores, as it was before request Six: each length is worked out from the table
+abbrev pub documentWalk : List ℕ → Stores → ℕ → ℕ → Walk
+documentWalk keys S seed x =
+    walk keys x (λ f. mapValue (S .handles) (handleCount (length keys)) seed (prefixItem x f))
+    (λ m. getD (S .left) m 0) (λ m. getD (S .right) m 0) (len keys)
 
 -- the probes of document 01's walk
 abbrev pub probesOf : List ℕ → ℕ → ℕ
@@ -32,8 +50,8 @@ CallsAnswer keys b s S = (x : ℕ) → callSays keys b (s .one) (s .two) (S .cel
 -- in the table
 abbrev pub CountsAnswer : List ℕ → Seeds → Stores → Type 0
 CountsAnswer keys s S =
-    (x : ℕ) → neighbourSays keys (S .handles) (S .left) (S .right) (s .three) x ≡ place (smaller keys x) (probesOf keys x)
-    (standsAt keys x (smaller keys x))
+    (x : ℕ) → neighbourOver keys S (s .three) x
+    ≡ place (smaller keys x) (probesOf keys x) (standsAt keys x (smaller keys x))
 
 -- stores over which both indexes answer every key as the table says: no seed and no cell occurs in what they answer
 pub record Answers (keys : List ℕ) (b : ℕ) (s : Seeds) (S : Stores) : Type 0 where

@@ -6,16 +6,14 @@ use mathlib.Core.List.{List, [], _∷_, map}
 use Prim.Native.Nat.{ℕ, _*_, _^_}
 use lib.ListN.{length}
 use Rattle.refusals.specs.Numbers.{BuildSaid, taken}
-use Rattle.cells.specs.Cells.{mapValue}
 use Rattle.tables.specs.Tables.{keyAt}
 use Rattle.tables.specs.Buckets.{bucketLength}
-use Rattle.tables.specs.Lengths.{handleCount}
 use Rattle.stores.specs.Sizes.{Fits, fullSizes}
 use Rattle.stores.specs.Stores.{Stores, Seeds, seeds, sizesOf}
 use Rattle.splits.specs.Splits.{len, left, right, root, handleLen}
-use Rattle.walks.specs.Walk.{storeWalk}
-use Rattle.neighbour.specs.Ask.{place, neighbourSays}
+use Rattle.neighbour.specs.Ask.{place}
 use Rattle.full.specs.Build.{FullBuilt}
+use Rattle.index.specs.Answers.{neighbourOver, walkOver}
 
 -- source 000, figure 1: 13-bit strings, each moved to the top of a key
 abbrev pub eleven : List ℕ
@@ -34,14 +32,12 @@ AfterBuild T says = (b : ℕ) (s : Seeds) (S S′ : Stores) → FullBuilt T b s 
 -- asking x gives so many before, with so many probes
 abbrev pub Gives : List ℕ → ℕ → ℕ → ℕ → Bool → Type 0
 Gives T x before probes stands =
-    AfterBuild T (λ seed S. neighbourSays T (S .handles) (S .left) (S .right) seed x ≡ place before probes stands)
+    AfterBuild T (λ seed S. neighbourOver T S seed x ≡ place before probes stands)
 
 -- asking x probes these lengths
 abbrev pub ProbesAt : List ℕ → ℕ → List ℕ → Type 0
 ProbesAt T x lengths =
-    AfterBuild T
-    (λ seed S.
-    storeWalk T x (mapValue (S .handles) (handleCount (length T)) seed) (S .left) (S .right) .probed ≡ lengths)
+    AfterBuild T (λ seed S. walkOver T S seed x .probed ≡ lengths)
 
 -- a build with this bucket size, these seeds and stores of the named lengths takes the table: its statement allows no other
 -- answer

@@ -15,7 +15,8 @@ use Rattle.refusals.proofs.Naming.{refusal-told}
 use Rattle.cells.specs.Cells.{mapValue}
 use Rattle.tables.specs.Tables.{mostKeys, keyAt, Table, smaller, sharedByAll}
 use Rattle.tables.specs.Lengths.{handleCount}
-use Rattle.splits.specs.Splits.{len, handleItem, handleSplit, leftEntry, rightEntry, leftStore, rightStore}
+use Rattle.splits.specs.Splits.{len, handleItem, handleSplit, leftEntry, rightEntry, lengthEntry}
+use Rattle.splits.specs.Splits.{leftStore, rightStore, lengthStore}
 use Rattle.basics.proofs.Bools.{both, differ}
 use Rattle.tables.proofs.Rising.{keys-rise}
 use Rattle.tables.proofs.Delimiting.{delimiters-one}
@@ -89,45 +90,45 @@ path-probes T t x =
     (λ two. rw (root-shared T t two) (rw (left-root T) at (walk-probes T x find ls rs (len T))))
 
 -- over what an accepted build leaves
-module _ (T : List ℕ) (t : Table T) (handles lefts rights : List ℕ) (seed x : ℕ)
-    (S : Stored T (mapValue handles (handleCount (length T)) seed) lefts rights) where
-  pub stored-says : walkSays T handles lefts rights seed x ≡ place (smaller T x) (length (pathWalk T x .probed))
+module _ (T : List ℕ) (t : Table T) (handles lefts rights lengths : List ℕ) (seed x : ℕ)
+    (S : Stored T (mapValue handles (handleCount (length T)) seed) lefts rights lengths) where
+  pub stored-says : walkSays T handles lefts rights lengths seed x ≡ place (smaller T x) (length (pathWalk T x .probed))
       (standsAt T x (smaller T x))
   unfolding walkSays told
   stored-says =
-      rw (stored-walk T t x (mapValue handles (handleCount (length T)) seed) lefts rights S, path-answer T t x)
+      rw (stored-walk T t x (mapValue handles (handleCount (length T)) seed) lefts rights lengths S, path-answer T t x)
 
 -- the stores that are lent, as refusal 4 judges them
-abbrev pub has : (handles lefts rights : List ℕ) → Sizes
-has handles lefts rights = sizesOf (asked [] handles lefts rights)
+abbrev pub has : (handles lefts rights lengths : List ℕ) → Sizes
+has handles lefts rights lengths = sizesOf (asked [] handles lefts rights lengths)
 
 -- refusals 1 and 4
-module _ (T handles lefts rights : List ℕ) (seed x : ℕ) where
-  pub says-many : mostKeys < length T → refused 1 0 ≡ neighbourSays T handles lefts rights seed x
+module _ (T handles lefts rights lengths : List ℕ) (seed x : ℕ) where
+  pub says-many : mostKeys < length T → refused 1 0 ≡ neighbourSays T handles lefts rights lengths seed x
   unfolding neighbourSays
   says-many h = sym (refuses _ _ h)
 
   pub says-short : length T ≤ mostKeys → {short : ℕ}
-      → short ≡ shortStore (has handles lefts rights) (neighbourSizes (length T)) → 0 < short
-      → refused 4 short ≡ neighbourSays T handles lefts rights seed x
+      → short ≡ shortStore (has handles lefts rights lengths) (neighbourSizes (length T)) → 0 < short
+      → refused 4 short ≡ neighbourSays T handles lefts rights lengths seed x
   unfolding neighbourSays
   says-short few is h = rw (← is) (sym (goes-on _ few (refuses _ _ h)))
 
   -- sizes that fit pass the tests
-  pub sizes-pass : length T ≤ mostKeys → Fits (has handles lefts rights) (neighbourSizes (length T))
-      → neighbourSays T handles lefts rights seed x ≡ walkSays T handles lefts rights seed x
+  pub sizes-pass : length T ≤ mostKeys → Fits (has handles lefts rights lengths) (neighbourSizes (length T))
+      → neighbourSays T handles lefts rights lengths seed x ≡ walkSays T handles lefts rights lengths seed x
   unfolding neighbourSays
   sizes-pass few F =
-      let none : shortStore (has handles lefts rights) (neighbourSizes (length T)) ≤ 0 = omega
-      (arith, all-fit (has handles lefts rights) (neighbourSizes (length T)) F) in
+      let none : shortStore (has handles lefts rights lengths) (neighbourSizes (length T)) ≤ 0 = omega
+      (arith, all-fit (has handles lefts rights lengths) (neighbourSizes (length T)) F) in
       goes-on _ few (goes-on _ none refl)
 
   -- and where none is too short they fit the walk over the table, the delimiters of buckets of one row
   pub walk-fits : length T ≤ mostKeys → {short : ℕ}
-      → short ≡ shortStore (has handles lefts rights) (neighbourSizes (length T)) → short ≤ 0
-      → Fits (has handles lefts rights) (neighbourSizes (length T)) × Walkable 1 T handles lefts rights
+      → short ≡ shortStore (has handles lefts rights lengths) (neighbourSizes (length T)) → short ≤ 0
+      → Fits (has handles lefts rights lengths) (neighbourSizes (length T)) × Walkable 1 T handles lefts rights lengths
   walk-fits few is h =
-      let F = none-short (has handles lefts rights) (neighbourSizes (length T)) (omega arith) in
+      let F = none-short (has handles lefts rights lengths) (neighbourSizes (length T)) (omega arith) in
       let one = delimiters-one T in (
         F,
         record {
@@ -135,6 +136,7 @@ module _ (T handles lefts rights : List ℕ) (seed x : ℕ) where
           some-handles = rw one (F .handles);
           some-lefts = rw one (F .left);
           some-rights = rw one (F .right);
+          some-lengths = rw one (F .lengths);
         },
       )
 
@@ -148,31 +150,32 @@ module _ (c p : ℕ) (s : Bool) where
   told-probes T x k (before d) e = cc
   told-probes T x k spoiled e = not-refused e
 
-  pub walk-says-six : (T handles lefts rights : List ℕ) (seed x : ℕ)
-      → walkSays T handles lefts rights seed x ≡ place c p s → p ≤ 6
+  pub walk-says-six : (T handles lefts rights lengths : List ℕ) (seed x : ℕ)
+      → walkSays T handles lefts rights lengths seed x ≡ place c p s → p ≤ 6
   unfolding walkSays storeWalk
-  walk-says-six T handles lefts rights seed x e = rw (told-probes T x _ _ e) (walk-six T x _ _ _ _)
+  walk-says-six T handles lefts rights lengths seed x e = rw (told-probes T x _ _ e) (walk-six T x _ _ _ _)
 
   past : (t : Bool) (n k : ℕ) (rest : NeighbourSaid) → cond t (refused n k) rest ≡ place c p s
       → rest ≡ place c p s
   past true n k rest e = not-refused e
   past false n k rest e = e
 
-  pub ask-six : (keys handles lefts rights : List ℕ) (seed x : ℕ)
-      → neighbourSays keys handles lefts rights seed x ≡ place c p s → p ≤ 6
+  pub ask-six : (keys handles lefts rights lengths : List ℕ) (seed x : ℕ)
+      → neighbourSays keys handles lefts rights lengths seed x ≡ place c p s → p ≤ 6
   unfolding neighbourSays
-  ask-six keys handles lefts rights seed x e =
-      let short = shortStore (has handles lefts rights) (neighbourSizes (length keys)) in
-      walk-says-six keys handles lefts rights seed x
+  ask-six keys handles lefts rights lengths seed x e =
+      let short = shortStore (has handles lefts rights lengths) (neighbourSizes (length keys)) in
+      walk-says-six keys handles lefts rights lengths seed x
       (past (ltb 0 short) 4 short _ (past (ltb mostKeys (length keys)) 1 0 _ e))
 
--- the stores that the bounds are built into, with a map 3 that gives each of its items the split that it stands for,
--- are what a build leaves
-pub stored-by : (T : List ℕ) (lookUp : ℕ → ℕ) (oldLeft oldRight : List ℕ)
+-- the stores that the bounds and lengths are built into, with a map 3 that gives each of its items the split that it
+-- stands for, are what a build leaves
+pub stored-by : (T : List ℕ) (lookUp : ℕ → ℕ) (oldLeft oldRight oldLengths : List ℕ)
     → ((i : ℕ) → i + 2 < length T → lookUp (handleItem T (handleSplit T i)) ≡ handleSplit T i)
-    → Stored T lookUp (leftStore T oldLeft) (rightStore T oldRight)
-stored-by T lookUp oldLeft oldRight items = record {
+    → Stored T lookUp (leftStore T oldLeft) (rightStore T oldRight) (lengthStore T oldLengths)
+stored-by T lookUp oldLeft oldRight oldLengths items = record {
   handles-lead = handles-by-items T lookUp items;
   lefts-are = entered-at (length T) (leftEntry T) oldLeft;
   rights-are = entered-at (length T) (rightEntry T) oldRight;
+  lengths-are = entered-at (length T) (lengthEntry T) oldLengths;
 }

@@ -4,4 +4,4 @@ use Rattle.neighbour.specs.Determined.{NeighbourAskDetermined}
 use Rattle.neighbour.proofs.Asking.{said-injective}
 
 pub neighbour-ask-determined : NeighbourAskDetermined
-neighbour-ask-determined keys handles lefts rights seed x a a′ e e′ = said-injective a a′ (e ∙ sym e′)
+neighbour-ask-determined keys handles lefts rights lengths seed x a a′ e e′ = said-injective a a′ (e ∙ sym e′)

@@ -1,5 +1,5 @@
--- Document 01, "The walk" and "Refusal numbers and their order": what a neighbour ask says, in the document's
--- numbers. What an answer says, and what the walk says over a table and stores of fitting sizes, stands in
+-- Document 01, "The walk" and "Refusal numbers and their order", with request Six: what a neighbour ask says, in the
+-- document's numbers. What an answer says, and what the walk says over a table and stores of fitting sizes, stands in
 -- places/specs/Said.antt and is handed on.
 use mathlib.Core.Bool.{cond}
 use mathlib.Core.List.{List, []}
@@ -14,8 +14,8 @@ unfoldable pub use Rattle.places.specs.Said.{saidByNeighbour, told, walkSays}
 
 -- what an ask says, whatever it is given: refusal 1, refusal 4 with the first store that is too short, and then the
 -- walk, which may give 6
-unfoldable pub neighbourSays : (keys handles lefts rights : List ℕ) → ℕ → ℕ → NeighbourSaid
-neighbourSays keys handles lefts rights seed x =
-    let short = shortStore (sizesOf (asked [] handles lefts rights)) (neighbourSizes (length keys)) in
+unfoldable pub neighbourSays : (keys handles lefts rights lengths : List ℕ) → ℕ → ℕ → NeighbourSaid
+neighbourSays keys handles lefts rights lengths seed x =
+    let short = shortStore (sizesOf (asked [] handles lefts rights lengths)) (neighbourSizes (length keys)) in
     cond (ltb mostKeys (length keys)) (refused 1 0)
-    (cond (ltb 0 short) (refused 4 short) (walkSays keys handles lefts rights seed x))
+    (cond (ltb 0 short) (refused 4 short) (walkSays keys handles lefts rights lengths seed x))

@@ -8,6 +8,6 @@ use Rattle.neighbour.specs.Ask.{saidByNeighbour, neighbourSays}
 -- any two answers of an ask that its statement allows on the same input are one
 abbrev pub NeighbourAskDetermined : Type 0
 NeighbourAskDetermined =
-    (keys handles lefts rights : List ℕ) (seed x : ℕ) (a a′ : NeighbourAnswer)
-    → saidByNeighbour a ≡ neighbourSays keys handles lefts rights seed x
-    → saidByNeighbour a′ ≡ neighbourSays keys handles lefts rights seed x → a ≡ a′
+    (keys handles lefts rights lengths : List ℕ) (seed x : ℕ) (a a′ : NeighbourAnswer)
+    → saidByNeighbour a ≡ neighbourSays keys handles lefts rights lengths seed x
+    → saidByNeighbour a′ ≡ neighbourSays keys handles lefts rights lengths seed x → a ≡ a′

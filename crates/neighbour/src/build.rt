@@ -1,5 +1,5 @@
-// Building the neighbour index: the bounds of the splits, and map 3 on their handles. The function is inner: the full
-// build judges what it is lent before it calls it.
+// Building the neighbour index: the bounds and the lengths of the splits, and map 3 on their handles. The function is
+// inner: the full build judges what it is lent before it calls it.
 ghost use Rattle.tables.specs.Delimiters.{delimiters};
 ghost use Rattle.neighbour.specs.Inner.{Storable, StoresBuilt};
 use items::Items;
@@ -14,12 +14,14 @@ pub fn build_stores(
     left: &mut [u16],
     right: &mut [u16],
     work: &mut [u16],
+    lengths: &mut [u8],
 ) -> usize
-    requires { ⌜ Storable b (now keys) (now handles) (now left) (now right) (now work) ⌝ }
+    requires { ⌜ Storable b (now keys) (now handles) (now left) (now right) (now work) (now lengths) ⌝ }
     ensures { λ r. ⌜ StoresBuilt (delimiters b (now (keys .entry))) seed3 (now (handles .entry))
-        (now (left .entry)) (now (right .entry)) (now (work .entry))
-        r (now (handles .exit)) (now (left .exit)) (now (right .exit)) (now (work .exit)) ⌝ }
+        (now (left .entry)) (now (right .entry)) (now (work .entry)) (now (lengths .entry))
+        r (now (handles .exit)) (now (left .exit)) (now (right .exit)) (now (work .exit)) (now (lengths .exit)) ⌝ }
 {
     bounds::build_bounds(keys, b, left, right);
+    lengths::build_lengths(keys, b, lengths);
     maps::build::build(Items::Handles, b, seed3, keys, left, right, handles, work)
 }

@@ -10,11 +10,33 @@ use samples::table::Sample;
 use samples::text;
 use samplings::asks::print_neighbour;
 use samplings::builds::first_taken;
+use samplings::builds::root;
 
 // The line over handles that no build left, and over bounds that are spoiled in part.
 fn print_spoiled(name: &[u8], n: u16, keys: &[u64], seed: u64, left: Part, right: Part) {
     text::word(name);
-    print_neighbour(keys, seed, mixed(0, 2526, 7, n), left, right);
+    print_neighbour(keys, seed, mixed(0, 2526, 7, n), left, right, none());
+}
+
+// The line over handles that no build left, and over lengths that are false in part.
+fn print_false(name: &[u8], n: u16, keys: &[u64], seed: u64, lengths: Part) {
+    text::word(name);
+    print_neighbour(keys, seed, mixed(0, 2526, 7, n), none(), none(), lengths);
+}
+
+// The line over handles that all lead to one split, about a third of the way, with a false length.
+fn print_split(name: &[u8], n: u16, keys: &[u64], seed: u64, length: u16) {
+    let split = n / 3 + 1;
+    let at = split as usize;
+    text::word(name);
+    print_neighbour(
+        keys,
+        seed,
+        same(0, 2526, split),
+        none(),
+        none(),
+        same(at, at + 1, length),
+    );
 }
 
 fn print_left(n: u16, keys: &[u64], seed: u64) {
@@ -47,6 +69,16 @@ fn print_right(n: u16, keys: &[u64], seed: u64)
     print_spoiled(b"stores=all", n, keys, seed, all, all);
 }
 
+fn print_lengths(n: u16, keys: &[u64], seed: u64) {
+    let rows = n as usize;
+    let at = root(keys, seed) as usize;
+    print_false(b"stores=lengths", n, keys, seed, mixed(1, rows, 19, 65));
+    print_false(b"stores=long", n, keys, seed, same(at, at + 1, 64));
+    print_false(b"stores=zero-lengths", n, keys, seed, same(0, rows, 0));
+    print_split(b"stores=false-split", n, keys, seed, 60);
+    print_split(b"stores=long-split", n, keys, seed, 64);
+}
+
 fn block(sample: Sample, n: u16)
     requires { ⌜ n ≤ 2000 ⌝ }
 {
@@ -59,6 +91,7 @@ fn block(sample: Sample, n: u16)
     text::word(b"\n");
     print_left(n, rows, seed);
     print_right(n, rows, seed);
+    print_lengths(n, rows, seed);
 }
 
 fn small(sample: Sample) {

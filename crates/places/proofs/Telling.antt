@@ -10,8 +10,7 @@ use Rattle.words.specs.Keys.{prefixItem}
 use Rattle.cells.specs.Cells.{mapValue}
 use Rattle.tables.specs.Tables.{keyAt}
 use Rattle.tables.specs.Lengths.{handleCount}
-use Rattle.splits.specs.Splits.{len}
-use Rattle.walks.specs.Walk.{agrees, descend, before, spoiled, Walk, decide, walk, storeWalk}
+use Rattle.walks.specs.Walk.{agrees, descend, before, spoiled, Walk, decide, walk, storedLength, storeWalk}
 use Rattle.places.specs.Said.{NeighbourSaid, place, refused, told, walkSays}
 use Rattle.walks.proofs.Answering.{walk-none, walk-one, walk-off, walk-on, walk-bad, halt}
 
@@ -26,9 +25,9 @@ module _ (T : List ℕ) (x probes c : ℕ) where
   unfolding told
   told-past h = rw (le-ltb c (length T) h)
 
-module _ (T handles lefts rights : List ℕ) (seed x : ℕ) where
+module _ (T handles lefts rights lengths : List ℕ) (seed x : ℕ) where
   abbrev says : NeighbourSaid
-  says = walkSays T handles lefts rights seed x
+  says = walkSays T handles lefts rights lengths seed x
 
   abbrev look : ℕ → ℕ
   look f = mapValue handles (handleCount (length T)) seed (prefixItem x f)
@@ -40,7 +39,7 @@ module _ (T handles lefts rights : List ℕ) (seed x : ℕ) where
   rs m = getD rights m 0
 
   abbrev lens : ℕ → ℕ
-  lens = len T
+  lens = storedLength lengths
 
   from : (w : Walk) → walk T x look ls rs lens ≡ w → told T x (length (w .probed)) (w .answer) ≡ says
   unfolding walkSays storeWalk
@@ -60,18 +59,21 @@ module _ (T handles lefts rights : List ℕ) (seed x : ℕ) where
     unfolding told
     says-bad fails = from (halt r spoiled) (walk-bad T x look ls rs lens two r (sym e) fails)
 
-    module _ (ok : (0 < r) × (r < length T) × (lens r ≤ 63)) where
-      pub says-low : agrees T x r (lens r) ≡ false → x ≤ keyAt T r → told T x 0 (before 0) ≡ says
+    -- a root split, and what was read as its length
+    module _ (ok : (0 < r) × (r < length T) × (lens r ≤ 63)) (l : ℕ) (is : l ≡ lens r) where
+      pub says-low : agrees T x r l ≡ false → x ≤ keyAt T r → told T x 0 (before 0) ≡ says
       says-low off h =
-          from (halt r (before 0)) (walk-off T x look ls rs lens two r (sym e) ok off ∙ (rw (le-leb x (keyAt T r) h)))
+          from (halt r (before 0))
+          (walk-off T x look ls rs lens two r (sym e) ok (rw is at off) ∙ (rw (le-leb x (keyAt T r) h)))
 
-      pub says-high : agrees T x r (lens r) ≡ false → keyAt T r < x → (c : ℕ) → c ≡ length T
-          → told T x 0 (before c) ≡ says
-      says-high off h c is =
-          rw is (from (halt r (before (length T)))
-          (walk-off T x look ls rs lens two r (sym e) ok off ∙ (rw (lt-leb x (keyAt T r) h))))
+      pub says-high : agrees T x r l ≡ false → keyAt T r < x → (c : ℕ) → c ≡ length T → told T x 0 (before c) ≡ says
+      says-high off h c all =
+          rw all (from (halt r (before (length T)))
+          (walk-off T x look ls rs lens two r (sym e) ok (rw is at off) ∙ (rw (lt-leb x (keyAt T r) h))))
 
-      pub says-walk : agrees T x r (lens r) ≡ true → (node lower probes a b : ℕ) → node ≡ descend T lens x look 64 r 64 .node
+      pub says-walk : agrees T x r l ≡ true → (node lower probes a b : ℕ)
+          → node ≡ descend T lens x look 64 r 64 .node
           → probes ≡ length (descend T lens x look 64 r 64 .probed) → lower ≡ lens node
           → a ≡ getD lefts node 0 → b ≡ getD rights node 0 → told T x probes (decide T x lower a node b) ≡ says
-      says-walk on node lower probes a b n p l u v = rw (l, u, v, p, n) (from _ (walk-on T x look ls rs lens two r (sym e) ok on))
+      says-walk on node lower probes a b n p l′ u v =
+          rw (l′, u, v, p, n) (from _ (walk-on T x look ls rs lens two r (sym e) ok (rw is at on)))

@@ -7,8 +7,9 @@ use Rattle.tables.specs.Delimiters.{delimiters, Bucketed}
 use Rattle.tables.specs.Lengths.{handleCount}
 
 -- a table and stores of fitting sizes
-pub record Walkable (b : ℕ) (keys handles lefts rights : List ℕ) : Type 0 where
+pub record Walkable (b : ℕ) (keys handles lefts rights lengths : List ℕ) : Type 0 where
   pub bucketed : Bucketed b keys
   pub some-handles : cellCount (handleCount (length (delimiters b keys))) ≤ length handles
   pub some-lefts : length (delimiters b keys) ≤ length lefts
   pub some-rights : length (delimiters b keys) ≤ length rights
+  pub some-lengths : length (delimiters b keys) ≤ length lengths

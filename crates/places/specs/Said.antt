@@ -33,8 +33,8 @@ unfoldable pub told : List ℕ → ℕ → ℕ → Answer → NeighbourSaid
 told T x probes (before c) = place c probes (standsAt T x c)
 told T x probes spoiled = refused 6 0
 
--- what the walk says over a table, the cells of map 3 and the two stores
-unfoldable pub walkSays : (T handles lefts rights : List ℕ) → ℕ → ℕ → NeighbourSaid
-walkSays T handles lefts rights seed x =
-    let w = storeWalk T x (mapValue handles (handleCount (length T)) seed) lefts rights in
+-- what the walk says over a table, the cells of map 3, the two stores of bounds and the store of lengths
+unfoldable pub walkSays : (T handles lefts rights lengths : List ℕ) → ℕ → ℕ → NeighbourSaid
+walkSays T handles lefts rights lengths seed x =
+    let w = storeWalk T x (mapValue handles (handleCount (length T)) seed) lefts rights lengths in
     told T x (length (w .probed)) (w .answer)

@@ -1,5 +1,6 @@
 // The walk to x's place, and its answer (document 01, "The walk", 1, 2 and 4), over the delimiters of buckets of b
-// rows; with b = 1 they are the table itself.
+// rows; with b = 1 they are the table itself. The lengths of the splits, the root's too, are those that the store of
+// lengths holds (request Six).
 //
 // Every function is proved and the crate assumes nothing. Its functions ask for a table and stores that were seen to
 // fit.
@@ -12,11 +13,11 @@ ghost use Rattle.walks.specs.Walk.{before, decide};
 ghost use Rattle.descent.specs.Inner.{Lent};
 ghost use Rattle.places.specs.Said.{saidByNeighbour, told, walkSays};
 ghost use Rattle.places.specs.Inner.{Walkable};
+use descent::agrees;
 use descent::descend;
-use descent::on_path;
 use refusals::Refusal;
 use splits::split::entry_at;
-use splits::split::len_at;
+use splits::split::length_at;
 use tables::delimiter::delimiter_at;
 use tables::delimiter::delimiter_count;
 
@@ -98,12 +99,13 @@ fn walk_splits(
     handles: &[u16],
     left: &[u16],
     right: &[u16],
+    lengths: &[u8],
     x: u64,
 ) -> NeighbourAnswer
-    requires { ⌜ Lent b (now keys) n (now handles) × (2 ≤ n) × (n ≤ length (now left)) ×
+    requires { ⌜ Lent b (now keys) n (now handles) (now lengths) × (2 ≤ n) × (n ≤ length (now left)) ×
         (n ≤ length (now right)) ⌝ }
     ensures { λ r. ⌜ saidByNeighbour r ≡ walkSays (delimiters b (now (keys .entry))) (now (handles .entry))
-        (now (left .entry)) (now (right .entry)) seed3 x ⌝ }
+        (now (left .entry)) (now (right .entry)) (now (lengths .entry)) seed3 x ⌝ }
 {
     let root = entry_at(left, 0);
     if root == 0 {
@@ -112,12 +114,12 @@ fn walk_splits(
     if root >= n {
         return NeighbourAnswer::Refused(Refusal::Spoiled);
     }
-    let l = len_at(keys, b, root);
+    let l = length_at(lengths, root);
     if l > 63 {
         return NeighbourAnswer::Refused(Refusal::Spoiled);
     }
-    if on_path(keys, b, x, root, l) {
-        let d = descend(keys, b, n, seed3, handles, x, root, l);
+    if agrees(keys, b, x, root, l) {
+        let d = descend(keys, b, n, seed3, handles, lengths, x, root, l);
         let node = d.node;
         let first = entry_at(left, node);
         let end = entry_at(right, node);
@@ -137,11 +139,12 @@ pub fn walk_from(
     handles: &[u16],
     left: &[u16],
     right: &[u16],
+    lengths: &[u8],
     x: u64,
 ) -> NeighbourAnswer
-    requires { ⌜ Walkable b (now keys) (now handles) (now left) (now right) ⌝ }
+    requires { ⌜ Walkable b (now keys) (now handles) (now left) (now right) (now lengths) ⌝ }
     ensures { λ r. ⌜ saidByNeighbour r ≡ walkSays (delimiters b (now (keys .entry))) (now (handles .entry))
-        (now (left .entry)) (now (right .entry)) seed3 x ⌝ }
+        (now (left .entry)) (now (right .entry)) (now (lengths .entry)) seed3 x ⌝ }
 {
     let n = delimiter_count(keys, b);
     if n == 0 {
@@ -153,5 +156,5 @@ pub fn walk_from(
         }
         return tell(keys, b, n, x, 0, 1);
     }
-    walk_splits(keys, b, n, seed3, handles, left, right, x)
+    walk_splits(keys, b, n, seed3, handles, left, right, lengths, x)
 }

@@ -43,10 +43,12 @@ fn print_answers(
     handles: &[u16],
     left: &[u16],
     right: &[u16],
+    lengths: &[u8],
     asks: &[u64],
     out: &mut [u8],
 ) -> usize
-    requires { ⌜ Answers (now keys) b (same seed) (asked (now cells) (now handles) (now left) (now right)) ⌝ }
+    requires { ⌜ Answers (now keys) b (same seed) (asked (now cells) (now handles) (now left) (now right)
+        (now lengths)) ⌝ }
     ensures { λ r.
         ⌜ ShownWhereRoom (answered (now (keys .entry)) (now (asks .entry)))
         (now (out .entry)) r (now (out .exit)) ⌝ }
@@ -54,7 +56,19 @@ fn print_answers(
     let Next::At(i) = write_head(out, 0, keys.len()) else {
         return 0;
     };
-    answer_asks(keys, b, seed, cells, handles, left, right, asks, out, i).or(0)
+    answer_asks(
+        keys,
+        b,
+        seed,
+        cells,
+        handles,
+        left,
+        right,
+        lengths,
+        asks,
+        out,
+        i,
+    ).or(0)
 }
 
 // The answers by the first seed that is taken, in stores as long as 2,048 keys can want; or the refusal of the table, or
@@ -68,6 +82,7 @@ fn answer_in(
     left: &mut [u16; 2048],
     right: &mut [u16; 2048],
     work: &mut [u16; 9274],
+    lengths: &mut [u8; 2048],
     out: &mut [u8],
 ) -> usize
     requires { ⌜ length (now keys) ≤ 2048 ⌝ }
@@ -75,8 +90,19 @@ fn answer_in(
         ⌜ ShowsWhereRoom (TableText (now (keys .entry)) b (now (asks .entry)))
         (now (out .entry)) r (now (out .exit)) ⌝ }
 {
-    match first_seed(keys, b, cells, handles, left, right, work) {
-        Choice::Seed(seed) => print_answers(keys, b, seed, cells, handles, left, right, asks, out),
+    match first_seed(keys, b, cells, handles, left, right, work, lengths) {
+        Choice::Seed(seed) => print_answers(
+            keys,
+            b,
+            seed,
+            cells,
+            handles,
+            left,
+            right,
+            lengths,
+            asks,
+            out,
+        ),
         Choice::Refused(refusal) => refuse(out, refusal),
         Choice::Jammed(size) => refuse_jam(out, size),
     }
@@ -94,6 +120,7 @@ fn answer_table(keys: &[u64], b: usize, asks: &[u64], out: &mut [u8]) -> usize
     let mut left = [0u16; 2048];
     let mut right = [0u16; 2048];
     let mut work = [0u16; 9274];
+    let mut lengths = [0u8; 2048];
     answer_in(
         keys,
         b,
@@ -103,6 +130,7 @@ fn answer_table(keys: &[u64], b: usize, asks: &[u64], out: &mut [u8]) -> usize
         &mut left,
         &mut right,
         &mut work,
+        &mut lengths,
         out,
     )
 }

@@ -14,12 +14,27 @@ fn widen(x: u16) -> u64 {
     x as u64
 }
 
+fn widen_byte(x: u8) -> u64 {
+    x as u64
+}
+
 // The digest with every entry of a store, in order.
 pub fn digest_all(before: u64, store: &[u16]) -> u64 {
     let mut all = before;
     let mut i = 0;
     while i < store.len() {
         all = digest(all, widen(store[i]));
+        i += 1;
+    }
+    all
+}
+
+// The same of a store of bytes.
+pub fn digest_bytes(before: u64, store: &[u8]) -> u64 {
+    let mut all = before;
+    let mut i = 0;
+    while i < store.len() {
+        all = digest(all, widen_byte(store[i]));
         i += 1;
     }
     all

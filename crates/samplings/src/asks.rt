@@ -13,7 +13,7 @@ use std::num::wrapping_sub_u64;
 use words::product::wrapping_mul;
 
 // The index that is asked. The call index, of buckets of so many rows, has no `left` and no `right`: its cells stand in
-// their place.
+// their place; and it doesn't look at the lengths.
 enum Index {
     Call(usize),
     Neighbour,
@@ -94,6 +94,7 @@ fn ask(
     cells: &[u16],
     left: &[u16],
     right: &[u16],
+    lengths: &[u8],
     x: u64,
 ) -> Answer {
     match index {
@@ -104,6 +105,7 @@ fn ask(
             cells,
             left,
             right,
+            lengths,
             x,
         )),
     }
@@ -116,10 +118,11 @@ fn ask_around(
     cells: &[u16],
     left: &[u16],
     right: &[u16],
+    lengths: &[u8],
     x: u64,
     t: Tally,
 ) -> Tally {
-    let same = tell(t, ask(index, keys, seed, cells, left, right, x));
+    let same = tell(t, ask(index, keys, seed, cells, left, right, lengths, x));
     let below = tell(
         same,
         ask(
@@ -129,6 +132,7 @@ fn ask_around(
             cells,
             left,
             right,
+            lengths,
             wrapping_sub_u64(x, 1),
         ),
     );
@@ -141,6 +145,7 @@ fn ask_around(
             cells,
             left,
             right,
+            lengths,
             wrapping_add_u64(x, 1),
         ),
     )
@@ -154,6 +159,7 @@ fn ask_all(
     cells: &[u16],
     left: &[u16],
     right: &[u16],
+    lengths: &[u8],
 ) -> Tally {
     let mut t = Tally {
         sum: 0,
@@ -162,13 +168,22 @@ fn ask_all(
     };
     let mut i = 0;
     while i < keys.len() {
-        t = ask_around(index, keys, seed, cells, left, right, keys[i], t);
+        t = ask_around(index, keys, seed, cells, left, right, lengths, keys[i], t);
         i += 1;
     }
-    let low = tell(t, ask(index, keys, seed, cells, left, right, 0));
+    let low = tell(t, ask(index, keys, seed, cells, left, right, lengths, 0));
     tell(
         low,
-        ask(index, keys, seed, cells, left, right, 0xFFFF_FFFF_FFFF_FFFF),
+        ask(
+            index,
+            keys,
+            seed,
+            cells,
+            left,
+            right,
+            lengths,
+            0xFFFF_FFFF_FFFF_FFFF,
+        ),
     )
 }
 
@@ -181,12 +196,14 @@ fn ask_built(
     of_handles: Part,
     of_left: Part,
     of_right: Part,
+    of_lengths: Part,
 ) -> Tally {
     let mut cells = [0u16; 3798];
     let mut handles = [0u16; 2526];
     let mut left = [0u16; 2000];
     let mut right = [0u16; 2000];
     let mut work = [0u16; 9058];
+    let mut lengths = [0u8; 2000];
     full::full_build(
         keys,
         b,
@@ -198,13 +215,15 @@ fn ask_built(
         &mut left,
         &mut right,
         &mut work,
+        &mut lengths,
     );
     store::fill(of_handles, &mut handles);
     store::fill(of_left, &mut left);
     store::fill(of_right, &mut right);
+    store::fill_bytes(of_lengths, &mut lengths);
     match index {
-        Index::Call(_) => ask_all(index, keys, seed, &cells, &cells, &cells),
-        Index::Neighbour => ask_all(index, keys, seed, &handles, &left, &right),
+        Index::Call(_) => ask_all(index, keys, seed, &cells, &cells, &cells, &lengths),
+        Index::Neighbour => ask_all(index, keys, seed, &handles, &left, &right, &lengths),
     }
 }
 
@@ -225,7 +244,7 @@ fn print_probes(tag: &[u8], t: Tally) {
 // The asks over the stores just as the build leaves them.
 fn ask_true(index: Index, keys: &[u64], b: usize, seed: u64) -> Tally {
     let part = none();
-    ask_built(index, keys, b, seed, part, part, part)
+    ask_built(index, keys, b, seed, part, part, part, part)
 }
 
 // The end of a line: the asks of both indexes over the stores that the build leaves.
@@ -237,14 +256,22 @@ pub fn print_both(keys: &[u64], b: usize, seed: u64) {
 // The end of a line: the asks of the call index over cells that no build left, a part of them filled and the others 0.
 pub fn print_call(keys: &[u64], b: usize, part: Part) {
     let mut cells = [0u16; 3798];
+    let lengths = [0u8; 1];
     store::fill(part, &mut cells);
-    let found = ask_all(Index::Call(b), keys, 0, &cells, &cells, &cells);
+    let found = ask_all(Index::Call(b), keys, 0, &cells, &cells, &cells, &lengths);
     print_found(b" digest=", found);
     text::word(b"\n");
 }
 
 // The end of a line: the asks of the neighbour index over the stores that the build leaves, a part of each filled anew.
-pub fn print_neighbour(keys: &[u64], seed: u64, of_handles: Part, of_left: Part, of_right: Part) {
+pub fn print_neighbour(
+    keys: &[u64],
+    seed: u64,
+    of_handles: Part,
+    of_left: Part,
+    of_right: Part,
+    of_lengths: Part,
+) {
     let probed = ask_built(
         Index::Neighbour,
         keys,
@@ -253,6 +280,7 @@ pub fn print_neighbour(keys: &[u64], seed: u64, of_handles: Part, of_left: Part,
         of_handles,
         of_left,
         of_right,
+        of_lengths,
     );
     print_probes(b" digest=", probed);
 }

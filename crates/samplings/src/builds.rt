@@ -1,8 +1,11 @@
 // What the build says, and what it leaves in its stores.
 use refusals::Verdict;
 use samples::answer::digest_all;
+use samples::answer::digest_bytes;
 use samples::store;
 use samples::store::first;
+use samples::store::first_bytes;
+use samples::store::first_bytes_mut;
 use samples::store::first_mut;
 use samples::store::mixed;
 use stores::Sizes;
@@ -17,6 +20,12 @@ pub struct Outcome {
 fn lent(n: usize, store: &mut [u16]) -> &mut [u16] {
     store::fill(mixed(0, n, 1, 65535), store);
     first_mut(n, store)
+}
+
+// The same of a store of bytes.
+fn lent_bytes(n: usize, store: &mut [u8]) -> &mut [u8] {
+    store::fill_bytes(mixed(0, n, 1, 65535), store);
+    first_bytes_mut(n, store)
 }
 
 // The digest with the first n entries of a store.
@@ -47,6 +56,7 @@ pub fn tried(
     let mut left = [0u16; 2000];
     let mut right = [0u16; 2000];
     let mut work = [0u16; 9058];
+    let mut lengths = [0u8; 2000];
     let said = full::full_build(
         keys,
         b,
@@ -58,13 +68,15 @@ pub fn tried(
         lent(lend.left, &mut left),
         lent(lend.right, &mut right),
         lent(lend.work, &mut work),
+        lent_bytes(lend.lengths, &mut lengths),
     );
     let first = digest_cells(said, before, lend.cells, &cells);
     let maps = digest_cells(said, first, lend.handles, &handles);
     let bounds = digest_first(digest_first(maps, lend.left, &left), lend.right, &right);
+    let numbers = digest_first(bounds, lend.work, &work);
     Outcome {
         said: said,
-        digest: digest_first(bounds, lend.work, &work),
+        digest: digest_bytes(numbers, first_bytes(lend.lengths, &lengths)),
     }
 }
 
@@ -75,6 +87,7 @@ pub fn verdict(keys: &[u64], b: usize, seed: u64) -> Verdict {
     let mut left = [0u16; 32768];
     let mut right = [0u16; 32768];
     let mut work = [0u16; 148126];
+    let mut lengths = [0u8; 32768];
     full::full_build(
         keys,
         b,
@@ -86,7 +99,32 @@ pub fn verdict(keys: &[u64], b: usize, seed: u64) -> Verdict {
         &mut left,
         &mut right,
         &mut work,
+        &mut lengths,
     )
+}
+
+// The root that the build leaves in entry 0 of `left`, of at most 2,000 keys in buckets of two rows.
+pub fn root(keys: &[u64], seed: u64) -> u16 {
+    let mut cells = [0u16; 3798];
+    let mut handles = [0u16; 2526];
+    let mut left = [0u16; 2000];
+    let mut right = [0u16; 2000];
+    let mut work = [0u16; 9058];
+    let mut lengths = [0u8; 2000];
+    full::full_build(
+        keys,
+        2,
+        seed,
+        seed,
+        seed,
+        &mut cells,
+        &mut handles,
+        &mut left,
+        &mut right,
+        &mut work,
+        &mut lengths,
+    );
+    left[0]
 }
 
 fn takes(keys: &[u64], b: usize, seed: u64) -> bool {

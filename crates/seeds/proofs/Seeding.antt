@@ -35,11 +35,12 @@ pub last-jam : {keys : List ℕ} {b seed map size : ℕ} → seed ≡ 255 → ((
 last-jam {map = map} last before J = rw (← last) (before, (map, J))
 
 -- a table of rowcheck, with stores for 2,048 keys
-module _ (keys : List ℕ) (words : Words keys) (few : length keys ≤ 2048) (b s : ℕ) (cells handles left right work : List ℕ)
+module _ (keys : List ℕ) (words : Words keys) (few : length keys ≤ 2048) (b s : ℕ)
+    (cells handles left right work lengths : List ℕ)
     (ec : length cells ≡ 5178) (eh : length handles ≡ 2589) (el : length left ≡ 2048) (er : length right ≡ 2048)
-    (ew : length work ≡ 9274) where
+    (ew : length work ≡ 9274) (en : length lengths ≡ 2048) where
   abbrev S : Stores
-  S = lent cells handles left right work
+  S = lent cells handles left right work lengths
 
   abbrev want : Sizes
   want = fullSizes (length keys) b
@@ -53,7 +54,14 @@ module _ (keys : List ℕ) (words : Words keys) (few : length keys ≤ 2048) (b 
       let cells₁ : cellCount n ≤ 2589 = omega arith in
       let cells₂ : cellCount k ≤ 2589 = omega arith in
       let cells₃ : cellCount (n - 2) ≤ 2589 = omega arith in
-      record { cells = omega arith; handles = omega arith; left = omega arith; right = omega arith; work = omega arith }
+      record {
+        cells = omega arith;
+        handles = omega arith;
+        left = omega arith;
+        right = omega arith;
+        work = omega arith;
+        lengths = omega arith;
+      }
 
   -- by what the build judges: 2, 3, or nothing
   judging : {A : Type 0} → ((b < 2) ⊎ (256 < b) → fullJudged keys b S ≡ refused 2 0 → A)
@@ -98,13 +106,13 @@ module _ (keys : List ℕ) (words : Words keys) (few : length keys ≤ 2048) (b 
       (λ two most T t. record { two = two; most = most; table = T; first = rw (one, all) F })
   jams map size S′ (accepted j N e F) = jam-not-taken map size refl e
 
-  pub tried : (said : Verdict) (c h l r w : List ℕ)
-      → FullBuilt keys b (same s) S (saidByBuild said) (lent c h l r w) → SeedTried keys b s (asked c h l r) said
+  pub tried : (said : Verdict) (c h l r w n : List ℕ)
+      → FullBuilt keys b (same s) S (saidByBuild said) (lent c h l r w n) → SeedTried keys b s (asked c h l r n) said
   unfolding SeedTried
-  tried Taken c h l r w B =
+  tried Taken c h l r w n B =
       let A = full-accepted B in
       let P = A .passed in
-      let both = build-answers keys b (same s) S (lent c h l r w) words B in
+      let both = build-answers keys b (same s) S (lent c h l r w n) words B in
       record {
         two = P .two;
         most = P .most;
@@ -112,5 +120,5 @@ module _ (keys : List ℕ) (words : Words keys) (few : length keys ≤ 2048) (b 
         taken = A .jamless;
         answers = record { calls = both .calls; counts = both .counts };
       }
-  tried (Refused f) c h l r w B = refuses _ _ _ B
-  tried (Jammed map size) c h l r w B = jams map size _ B
+  tried (Refused f) c h l r w n B = refuses _ _ _ B
+  tried (Jammed map size) c h l r w n B = jams map size _ B

@@ -27,13 +27,26 @@ fn try_seed(
     left: &mut [u16; 2048],
     right: &mut [u16; 2048],
     work: &mut [u16; 9274],
+    lengths: &mut [u8; 2048],
 ) -> Verdict
     requires { ⌜ length (now keys) ≤ 2048 ⌝ }
     ensures { λ r.
         ⌜ SeedTried (now (keys .entry)) b seed
-        (asked (now (cells .exit)) (now (handles .exit)) (now (left .exit)) (now (right .exit))) r ⌝ }
+        (asked (now (cells .exit)) (now (handles .exit)) (now (left .exit)) (now (right .exit)) (now (lengths .exit))) r ⌝ }
 {
-    index::full_build(keys, b, seed, seed, seed, cells, handles, left, right, work)
+    index::full_build(
+        keys,
+        b,
+        seed,
+        seed,
+        seed,
+        cells,
+        handles,
+        left,
+        right,
+        work,
+        lengths,
+    )
 }
 
 // Tries seeds 0, 1, .. 255. Only a jam goes on to the next: any other refusal is the table's.
@@ -45,15 +58,16 @@ pub fn first_seed(
     left: &mut [u16; 2048],
     right: &mut [u16; 2048],
     work: &mut [u16; 9274],
+    lengths: &mut [u8; 2048],
 ) -> Choice
     requires { ⌜ length (now keys) ≤ 2048 ⌝ }
     ensures { λ r.
         ⌜ Chose (now (keys .entry)) b
-        (asked (now (cells .exit)) (now (handles .exit)) (now (left .exit)) (now (right .exit))) r ⌝ }
+        (asked (now (cells .exit)) (now (handles .exit)) (now (left .exit)) (now (right .exit)) (now (lengths .exit))) r ⌝ }
 {
     let mut seed: u64 = 0;
     loop {
-        match try_seed(keys, b, seed, cells, handles, left, right, work) {
+        match try_seed(keys, b, seed, cells, handles, left, right, work, lengths) {
             Verdict::Taken => {
                 return Choice::Seed(seed);
             }

@@ -12,7 +12,8 @@ use lib.ListN.{length}
 use Rattle.words.specs.Keys.{firstBits}
 use Rattle.words.proofs.Sharing.{shared-le}
 use Rattle.tables.specs.Tables.{keyAt, Table}
-use Rattle.splits.specs.Splits.{len, left, right, smallerOf, rootTo, root, parentLen, leftEntry, rightEntry}
+use Rattle.splits.specs.Splits.{len, left, right, smallerOf, rootTo, root, parentLen}
+use Rattle.splits.specs.Splits.{leftEntry, rightEntry, lengthEntry}
 use Rattle.splits.specs.Vouched.{RootLeast, RootOnly}
 use Rattle.basics.proofs.Bools.{by-test}
 use Rattle.splits.proofs.Rows.{left-lt, right-gt, right-le, rows-own, left-len, right-len, one-split}
@@ -109,6 +110,15 @@ left-split T m h = rw (ne-eqb m 0 (λ z. omega arith))
 pub right-split : (T : List ℕ) (m : ℕ) → 0 < m → rightEntry T m ≡ right T m
 unfolding rightEntry
 right-split T m h = rw (ne-eqb m 0 (λ z. omega arith))
+
+-- and those of the store of lengths
+pub length-first : (T : List ℕ) → lengthEntry T 0 ≡ 0
+unfolding lengthEntry
+length-first T = refl
+
+pub length-split : (T : List ℕ) (m : ℕ) → 0 < m → lengthEntry T m ≡ len T m
+unfolding lengthEntry
+length-split T m h = rw (ne-eqb m 0 (λ z. omega arith))
 
 -- the parent's length
 pub parent-left : (T : List ℕ) (m : ℕ) → 0 < left T m → len T (left T m) ≤ parentLen T m

@@ -71,3 +71,11 @@ leftStore T old = listed (length T) (leftEntry T) ++ drop (length T) old
 -- and in the store `right`
 abbrev pub rightStore : List ℕ → List ℕ → List ℕ
 rightStore T old = listed (length T) (rightEntry T) ++ drop (length T) old
+
+-- request Six, entry m of the store of lengths: len m, and 0 at entry 0
+unfoldable pub lengthEntry : List ℕ → ℕ → ℕ
+lengthEntry T m = cond (eqb m 0) 0 (len T m)
+
+-- what a build leaves in the store of lengths
+abbrev pub lengthStore : List ℕ → List ℕ → List ℕ
+lengthStore T old = listed (length T) (lengthEntry T) ++ drop (length T) old

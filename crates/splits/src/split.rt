@@ -29,6 +29,14 @@ pub fn entry_at(store: &[u16], m: usize) -> usize
     store[m] as usize
 }
 
+// Entry m of the store of lengths.
+pub fn length_at(lengths: &[u8], m: usize) -> u32
+    requires { ⌜ m < length (now lengths) ⌝ }
+    ensures { λ r. ⌜ r ≡ getD (now (lengths .entry)) m 0 ⌝ }
+{
+    lengths[m] as u32
+}
+
 // The split that item i of map 3 stands for.
 pub fn handle_split(root: usize, i: usize) -> usize
     requires { ⌜ i < 65536 ⌝ }

@@ -32,18 +32,22 @@ module _ (h w : Sizes) where
       let t₃ = passed (ltb (h .left) (w .left)) 2 _ (t₂ .1) in
       let t₄ = passed (ltb (h .right) (w .right)) 3 _ (t₃ .1) in
       let t₅ = passed (ltb (h .work) (w .work)) 4 _ (t₄ .1) in
+      let t₆ = passed (ltb (h .lengths) (w .lengths)) 5 _ (t₅ .1) in
       record {
         cells = ltb-false _ _ (t₁ .0);
         handles = ltb-false _ _ (t₂ .0);
         left = ltb-false _ _ (t₃ .0);
         right = ltb-false _ _ (t₄ .0);
         work = ltb-false _ _ (t₅ .0);
+        lengths = ltb-false _ _ (t₆ .0);
       }
 
   pub all-fit : Fits h w → shortStore h w ≡ 0
   unfolding shortStore
   all-fit F =
-      goes-on _ (F .cells) (goes-on _ (F .handles) (goes-on _ (F .left) (goes-on _ (F .right) (goes-on _ (F .work) refl))))
+      goes-on _ (F .cells)
+      (goes-on _ (F .handles)
+      (goes-on _ (F .left) (goes-on _ (F .right) (goes-on _ (F .work) (goes-on _ (F .lengths) refl)))))
 
 -- refusals 3 and 4
 module _ (keys : List ℕ) (have want : Sizes) {row short : ℕ} (falls : row ≡ firstFall keys)

@@ -21,8 +21,8 @@ use Rattle.stores.specs.declared.Lend.the-variants as lend
 use Rattle.stores.proofs.Chains.{goes-on, refuses}
 use Rattle.stores.proofs.Judging.{limits-pass}
 
-abbrev pub made : (cells handles left right work : ℕ) → Sizes
-made c h l r w = record { cells = c; handles = h; left = l; right = r; work = w }
+abbrev pub made : (cells handles left right work lengths : ℕ) → Sizes
+made c h l r w m = record { cells = c; handles = h; left = l; right = r; work = w; lengths = m }
 
 module _ (n b : ℕ) where
   pub too-many-keys : mostKeys < n → refused 1 0 ≡ namedLengths n b
@@ -44,7 +44,7 @@ module _ (n b : ℕ) where
 
 -- the lengths, each for itself
 pub full-sized : (n b : ℕ) {c h k : ℕ} → c ≡ callCells n b → h ≡ handleCells n → k ≡ callWork n
-    → made c h n n k ≡ fullSizes n b
+    → made c h n n k n ≡ fullSizes n b
 full-sized n b p q r = rw (p, q, r)
 
 -- where lengths are answered, 1 and 2 do not apply

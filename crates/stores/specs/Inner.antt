@@ -11,3 +11,4 @@ pub record Beyond (w : Sizes) (S S′ : Stores) : Type 0 where
   pub left : drop (w .left) (S′ .left) ≡ drop (w .left) (S .left)
   pub right : drop (w .right) (S′ .right) ≡ drop (w .right) (S .right)
   pub work : drop (w .work) (S′ .work) ≡ drop (w .work) (S .work)
+  pub lengths : drop (w .lengths) (S′ .lengths) ≡ drop (w .lengths) (S .lengths)

@@ -1,5 +1,5 @@
--- Document 01, "Refusal numbers and their order": refusal 4, and the named lengths of the stores that each entry is lent, for n
--- keys and bucket size b. A request that adds a store adds a field and a line here.
+-- Document 01, "Refusal numbers and their order", and request Six: refusal 4, and the named lengths of the stores that
+-- each entry is lent, for n keys and bucket size b. A request that adds a store adds a field and a line here.
 use mathlib.Core.Bool.{cond}
 use Prim.Native.Nat.{ℕ, _≤_}
 use lib.Dec.{ltb}
@@ -10,14 +10,16 @@ use Rattle.stores.specs.declared.Sizes.{Sizes}
 use Rattle.stores.specs.declared.Lend.{Lend}
 use Rattle.stores.specs.declared.Lend.the-variants as lend
 
--- the first store that is shorter than it has to be, 0 if none is: 1 call cells, 2 handle cells, 3 left, 4 right, 5 work
+-- the first store that is shorter than it has to be, 0 if none is: 1 call cells, 2 handle cells, 3 left, 4 right, 5
+-- work, 6 lengths
 unfoldable pub shortStore : (have want : Sizes) → ℕ
 shortStore have want =
     cond (ltb (have .cells) (want .cells)) 1
     (cond (ltb (have .handles) (want .handles)) 2
     (cond (ltb (have .left) (want .left)) 3
     (cond (ltb (have .right) (want .right)) 4
-    (cond (ltb (have .work) (want .work)) 5 0))))
+    (cond (ltb (have .work) (want .work)) 5
+    (cond (ltb (have .lengths) (want .lengths)) 6 0)))))
 
 -- none is
 pub record Fits (have want : Sizes) : Type 0 where
@@ -26,17 +28,20 @@ pub record Fits (have want : Sizes) : Type 0 where
   pub left : want .left ≤ have .left
   pub right : want .right ≤ have .right
   pub work : want .work ≤ have .work
+  pub lengths : want .lengths ≤ have .lengths
 
--- the full build: C(n) + C(k) call cells, C(t) handle cells, n for left and right, and work for map 1, 2 × C(n) + 2 × n
+-- the full build: C(n) + C(k) call cells, C(t) handle cells, n for left, right and the lengths, and work for map 1,
+-- 2 × C(n) + 2 × n
 abbrev pub fullSizes : ℕ → ℕ → Sizes
-fullSizes n b = record { cells = callCells n b; handles = handleCells n; left = n; right = n; work = callWork n }
+fullSizes n b =
+    record { cells = callCells n b; handles = handleCells n; left = n; right = n; work = callWork n; lengths = n }
 
--- the call ask reads the call cells, and the neighbour ask the handle cells, left and right
+-- the call ask reads the call cells, and the neighbour ask the handle cells, left, right and the lengths
 abbrev pub callSizes : ℕ → ℕ → Sizes
-callSizes n b = record { cells = callCells n b; handles = 0; left = 0; right = 0; work = 0 }
+callSizes n b = record { cells = callCells n b; handles = 0; left = 0; right = 0; work = 0; lengths = 0 }
 
 abbrev pub neighbourSizes : ℕ → Sizes
-neighbourSizes n = record { cells = 0; handles = handleCells n; left = n; right = n; work = 0 }
+neighbourSizes n = record { cells = 0; handles = handleCells n; left = n; right = n; work = 0; lengths = n }
 
 -- what a caller is told: the named lengths, or a refusal's number and what it names
 pub data LendSaid : Type 0 where

@@ -6,20 +6,21 @@ use lib.ListN.{length}
 use Rattle.cells.specs.Memory.{cleared}
 use Rattle.stores.specs.declared.Sizes.{Sizes}
 
--- stores 1 to 5
+-- stores 1 to 6; the lengths are bytes
 pub record Stores : Type 0 where
   pub cells : List ℕ
   pub handles : List ℕ
   pub left : List ℕ
   pub right : List ℕ
   pub work : List ℕ
+  pub lengths : List ℕ
 
-abbrev pub lent : (cells handles left right work : List ℕ) → Stores
-lent c h l r w = record { cells = c; handles = h; left = l; right = r; work = w }
+abbrev pub lent : (cells handles left right work lengths : List ℕ) → Stores
+lent c h l r w m = record { cells = c; handles = h; left = l; right = r; work = w; lengths = m }
 
 -- what the asks read: no work
-abbrev pub asked : (cells handles left right : List ℕ) → Stores
-asked c h l r = lent c h l r []
+abbrev pub asked : (cells handles left right lengths : List ℕ) → Stores
+asked c h l r m = lent c h l r [] m
 
 -- the seeds of maps 1, 2 and 3
 pub record Seeds : Type 0 where
@@ -42,10 +43,11 @@ sizesOf S = record {
   left = length (S .left);
   right = length (S .right);
   work = length (S .work);
+  lengths = length (S .lengths);
 }
 
 -- all of them 0 over the lengths w, and beyond as they were
 abbrev pub clearedStores : Sizes → Stores → Stores
 clearedStores w S =
     lent (cleared (w .cells) (S .cells)) (cleared (w .handles) (S .handles)) (cleared (w .left) (S .left))
-    (cleared (w .right) (S .right)) (cleared (w .work) (S .work))
+    (cleared (w .right) (S .right)) (cleared (w .work) (S .work)) (cleared (w .lengths) (S .lengths))

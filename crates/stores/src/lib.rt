@@ -10,6 +10,7 @@ ghost use Rattle.stores.specs.Sizes.{Fits};
 ghost use Rattle.stores.specs.Stores.{lent, sizesOf, clearedStores};
 ghost use Rattle.stores.specs.Judged.{fallOrShort, saidByJudge};
 use cells::clear;
+use cells::clear_bytes;
 use refusals::Refusal;
 use tables::lengths::call_cells;
 use tables::lengths::call_work;
@@ -24,6 +25,7 @@ pub struct Sizes {
     pub left: usize,
     pub right: usize,
     pub work: usize,
+    pub lengths: usize,
 }
 
 // What a caller has to lend, or the refusal that the build would give whatever is lent.
@@ -57,6 +59,9 @@ pub fn short_store(have: Sizes, want: Sizes) -> u8
     if have.work < want.work {
         return 5;
     }
+    if have.lengths < want.lengths {
+        return 6;
+    }
     0
 }
 
@@ -71,6 +76,7 @@ pub fn full_sizes(n: usize, b: usize) -> Sizes
         left: n,
         right: n,
         work: call_work(n),
+        lengths: n,
     }
 }
 
@@ -85,6 +91,7 @@ pub fn call_sizes(n: usize, b: usize) -> Sizes
         left: 0,
         right: 0,
         work: 0,
+        lengths: 0,
     }
 }
 
@@ -99,6 +106,7 @@ pub fn neighbour_sizes(n: usize) -> Sizes
         left: n,
         right: n,
         work: 0,
+        lengths: n,
     }
 }
 
@@ -142,16 +150,18 @@ pub fn clear_stores(
     left: &mut [u16],
     right: &mut [u16],
     work: &mut [u16],
+    lengths: &mut [u8],
 )
-    requires { ⌜ Fits (sizesOf (lent (now cells) (now handles) (now left) (now right) (now work))) want ⌝ }
+    requires { ⌜ Fits (sizesOf (lent (now cells) (now handles) (now left) (now right) (now work) (now lengths))) want ⌝ }
     ensures { λ _. ⌜ lent (now (cells .exit)) (now (handles .exit)) (now (left .exit)) (now (right .exit))
-        (now (work .exit))
+        (now (work .exit)) (now (lengths .exit))
         ≡ clearedStores want (lent (now (cells .entry)) (now (handles .entry)) (now (left .entry))
-        (now (right .entry)) (now (work .entry))) ⌝ }
+        (now (right .entry)) (now (work .entry)) (now (lengths .entry))) ⌝ }
 {
     clear(cells, want.cells);
     clear(handles, want.handles);
     clear(left, want.left);
     clear(right, want.right);
     clear(work, want.work);
+    clear_bytes(lengths, want.lengths);
 }

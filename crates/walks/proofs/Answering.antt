@@ -17,11 +17,13 @@ use Rattle.tables.specs.Tables.{keyAt, Table, smaller}
 use Rattle.splits.specs.Splits.{len, root, leftEntry, rightEntry}
 use Rattle.basics.proofs.Bools.{both, by-test}
 use Rattle.splits.proofs.Rows.{less-by, len-lt}
-use Rattle.splits.proofs.Parents.{root-pos, root-lt, root-all, left-root, left-split, right-split}
-use Rattle.walks.specs.Walk.{agrees, onPath, Descent, descend, Answer, before, spoiled}
-use Rattle.walks.specs.Walk.{Walk, decide, walk, pathWalk, storeWalk, Stored}
+use Rattle.splits.proofs.Parents.{root-pos, root-lt, root-all, left-root, left-split, right-split, length-split}
+use Rattle.walks.specs.Walk.{agrees, onPath, accepted, Descent, descend, Answer, before, spoiled}
+use Rattle.walks.specs.Walk.{Walk, decide, walk, pathWalk, storedLength, storeWalk, Stored}
+use Rattle.walks.specs.Vouched.{TrueLengths, LongRoot, LongSplit}
 use Rattle.walks.proofs.Paths.{OnPath}
-use Rattle.walks.proofs.Descending.{onward-split, Deepest, descend-path, descend-deep, descend-probes}
+use Rattle.walks.proofs.Descending.{accepted-means, descend-probes, descend-split, descend-same}
+use Rattle.walks.proofs.Descending.{onward-split, Deepest, descend-path, descend-deep}
 use Rattle.walks.proofs.Deciding.{decides, smaller-low, smaller-high, smaller-most}
 
 abbrev pub halt : ℕ → Answer → Walk
@@ -111,6 +113,29 @@ by-size zero p q r = p refl
 by-size (suc zero) p q r = q refl
 by-size (suc (suc n)) p q r = r (omega arith)
 
+-- lengths that are the same at every split lead the same walk, over any look-up and bounds
+pub walk-same : (T : List ℕ) (x : ℕ) (find lefts rights lens lens′ : ℕ → ℕ)
+    → ((m : ℕ) → 0 < m → m < length T → lens m ≡ lens′ m)
+    → walk T x find lefts rights lens ≡ walk T x find lefts rights lens′
+walk-same T x find lefts rights lens lens′ same =
+    let n = length T in
+    let r = lefts 0 in
+    by-size n
+    (λ e. walk-none T x find lefts rights lens e ∙ sym (walk-none T x find lefts rights lens′ e))
+    (λ e. walk-one T x find lefts rights lens e ∙ sym (walk-one T x find lefts rights lens′ e))
+    (λ h.
+    walk-two T x find lefts rights lens h r refl
+    ∙ by-test (leb 1 r)
+    (λ a. by-test (ltb r n)
+    (λ b.
+    let pos = leb-true 1 r a in
+    let small = ltb-true r n b in
+    let end = descend-split T lens′ x find 64 r 64 pos small in
+    rw (same r pos small, descend-same T x find lens lens′ same 64 r 64 pos small, same _ (end .0) (end .1)))
+    (λ b. rw (a, b)))
+    (λ a. rw a)
+    ∙ sym (walk-two T x find lefts rights lens′ h r refl))
+
 module _ (T : List ℕ) (t : Table T) (x : ℕ) where
   rooted : 2 ≤ length T → (0 < root T) × (root T < length T) × (len T (root T) ≤ 63)
   rooted h =
@@ -180,17 +205,18 @@ module _ (T : List ℕ) (t : Table T) (x : ℕ) where
       (λ off. rw (walk-off T x find ls rs (len T) h (root T) (left-root T) (rooted h) off) (ap before (off-root h off))))
 
   -- W3: over what an accepted build leaves the walk is that over the table
-  pub stored-walk : (lookUp : ℕ → ℕ) (lefts rights : List ℕ) → Stored T lookUp lefts rights
-      → storeWalk T x lookUp lefts rights ≡ pathWalk T x
+  pub stored-walk : (lookUp : ℕ → ℕ) (lefts rights lengths : List ℕ) → Stored T lookUp lefts rights lengths
+      → storeWalk T x lookUp lefts rights lengths ≡ pathWalk T x
   unfolding pathWalk storeWalk
-  stored-walk lookUp lefts rights S =
+  stored-walk lookUp lefts rights lengths S =
       let look : ℕ → ℕ = λ f. lookUp (prefixItem x f) in
       let lefts′ : ℕ → ℕ = λ m. getD lefts m 0 in
       let rights′ : ℕ → ℕ = λ m. getD rights m 0 in
       let find = onward-split T x in
       let ls = leftEntry T in
       let rs = rightEntry T in
-      by-size (length T)
+      walk-same T x look lefts′ rights′ (storedLength lengths) (len T) (λ m h l. S .lengths-are m l ∙ length-split T m h)
+      ∙ by-size (length T)
       (λ e. walk-none T x look lefts′ rights′ (len T) e ∙ sym (walk-none T x find ls rs (len T) e))
       (λ e. walk-one T x look lefts′ rights′ (len T) e ∙ sym (walk-one T x find ls rs (len T) e))
       (λ h.
@@ -207,3 +233,17 @@ module _ (T : List ℕ) (t : Table T) (x : ℕ) where
       ∙ sym (walk-on T x find ls rs (len T) h (root T) (left-root T) (rooted h) on))
       (λ off. walk-off T x look lefts′ rights′ (len T) h (root T) at-root (rooted h) off
       ∙ sym (walk-off T x find ls rs (len T) h (root T) (left-root T) (rooted h) off)))
+
+-- the laws of specs/Vouched
+pub true-lengths : TrueLengths
+true-lengths T x find lefts rights lens is = walk-same T x find lefts rights lens (len T) is
+
+pub long-root : LongRoot
+long-root T x find lefts rights lens two long =
+    ap (λ (w : Walk). w .answer) (walk-bad T x find lefts rights lens two (lefts 0) refl (λ R. omega (arith, R .2)))
+
+pub long-split : LongSplit
+long-split T lens x f upper m top long =
+    by-test (accepted T lens x f upper m)
+    (λ ok. absurd (omega (arith, accepted-means T lens x f upper m ok .short)))
+    (λ ok. ok)

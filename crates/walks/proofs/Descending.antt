@@ -142,6 +142,20 @@ module _ (T : List ℕ) (lens : ℕ → ℕ) (x : ℕ) where
               ∙ sym (descend-rejects turns node upper f m wide refl refl ok)))
         ]
 
+    -- from a split they lead to a split
+    pub descend-split : (turns node upper : ℕ) → 0 < node → node < length T
+        → let end = descend T lens x find turns node upper .node in (0 < end) × (end < length T)
+    unfolding descend
+    descend-split zero node upper h l = (h, l)
+    descend-split (suc turns) node upper h l =
+        let f = probeAt (lens node) upper in
+        let m = find f in
+        by-test (ltb (suc (lens node)) upper)
+        (λ go. rw go (by-test (accepted T lens x f upper m)
+        (λ ok. let K = accepted-means f upper m ok in rw ok (descend-split turns m upper (K .pos) (K .small)))
+        (λ ok. rw ok (descend-split turns node f h l))))
+        (λ stop. rw stop (h, l))
+
 pub turns-suffice : TurnsSuffice
 turns-suffice T lens x find more node upper h top = descend-enough T lens x find 64 more node upper h top (omega arith)
 

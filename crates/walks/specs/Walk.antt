@@ -1,5 +1,5 @@
--- Document 01, "The walk": from the root to the deepest split whose string x has, over any look-up and stores, and
--- over the table alone.
+-- Document 01, "The walk", with the lengths of request Six: from the root to the deepest split whose string x has, over
+-- any look-up and stores, and over the table alone.
 use mathlib.Core.Path.{_≡_}
 use mathlib.Core.Bool.{Bool, cond, _&&_}
 use mathlib.Core.List.{List, [], _∷_}
@@ -9,7 +9,7 @@ use lib.ListN.{length, getD}
 use Rattle.words.specs.Keys.{firstBits, bitAt, prefixItem}
 use Rattle.words.specs.Fat.{fattestOf}
 use Rattle.tables.specs.Tables.{keyAt}
-use Rattle.splits.specs.Splits.{len, root, handleItem, leftEntry, rightEntry}
+use Rattle.splits.specs.Splits.{len, root, handleItem, leftEntry, rightEntry, lengthEntry}
 
 -- x has the first l bits of key m
 abbrev pub agrees : List ℕ → ℕ → ℕ → ℕ → Bool
@@ -92,10 +92,14 @@ walk T x find lefts rights lens =
     (cond (agrees T x r (lens r)) all (stop r (before (cond (leb x (keyAt T r)) 0 n))))
     (stop r spoiled)))
 
--- the walk over a look-up of items and the two stores, with the lengths of the table
-unfoldable pub storeWalk : List ℕ → ℕ → (ℕ → ℕ) → List ℕ → List ℕ → Walk
-storeWalk T x lookUp lefts rights =
-    walk T x (λ f. lookUp (prefixItem x f)) (λ m. getD lefts m 0) (λ m. getD rights m 0) (len T)
+-- the length that a store of lengths keeps for split m, true or false: the walk takes it as it stands
+abbrev pub storedLength : List ℕ → ℕ → ℕ
+storedLength lengths m = getD lengths m 0
+
+-- the walk over a look-up of items, the two stores of bounds and the store of lengths
+unfoldable pub storeWalk : List ℕ → ℕ → (ℕ → ℕ) → (lefts rights lengths : List ℕ) → Walk
+storeWalk T x lookUp lefts rights lengths =
+    walk T x (λ f. lookUp (prefixItem x f)) (λ m. getD lefts m 0) (λ m. getD rights m 0) (storedLength lengths)
 
 -- of the splits 1 to m on x's path the one with the least length from f on; 0 if there is none
 unfoldable pub pathTo : List ℕ → ℕ → ℕ → ℕ → ℕ
@@ -105,13 +109,14 @@ pathTo T x f (suc m) =
     cond (onPath T x (suc m) && leb f (len T (suc m)))
     (cond (eqb v 0) (suc m) (cond (ltb (len T (suc m)) (len T v)) (suc m) v)) v
 
--- the walk that needs no stores: at f it goes to the split on x's path with the least length from f on, if that is
--- below upper
+-- the walk that needs no stores and takes the lengths of the table: at f it goes to the split on x's path with the
+-- least length from f on, if that is below upper
 unfoldable pub pathWalk : List ℕ → ℕ → Walk
 pathWalk T x = walk T x (λ f. pathTo T x f (length T - 1)) (leftEntry T) (rightEntry T) (len T)
 
 -- what an accepted build leaves: each handle leads to its split, and the entries of the stores are those of the table
-pub record Stored (T : List ℕ) (lookUp : ℕ → ℕ) (lefts rights : List ℕ) : Type 0 where
+pub record Stored (T : List ℕ) (lookUp : ℕ → ℕ) (lefts rights lengths : List ℕ) : Type 0 where
   pub handles-lead : (m : ℕ) → 0 < m → m < length T → (m ≡ root T → ⊥) → lookUp (handleItem T m) ≡ m
   pub lefts-are : (m : ℕ) → m < length T → getD lefts m 0 ≡ leftEntry T m
   pub rights-are : (m : ℕ) → m < length T → getD rights m 0 ≡ rightEntry T m
+  pub lengths-are : (m : ℕ) → m < length T → getD lengths m 0 ≡ lengthEntry T m

@@ -13,7 +13,7 @@ use Rattle.asks.proofs.answer_ask.Tie as tie
 
 -- where the function began
 abbrev start : tie.After-neighbour-ask → tie.Start
-start p = p .before .before .before .before .before .before .before
+start p = p .before .before .before .before .before .before .before .before
 
 -- what is written of the answers is the ask's lines
 lines-said : (k : tie.After-call-ask) (call : Called) → saidOf call ≡ saidByCall (k .call-ask .result)

@@ -31,7 +31,7 @@ start e = e .before .before .before .before .before
 -- the number of the store that is too short
 short-is : (p : tie.After-short-store) → let a = start (p .before .before) .args in
     p .short-store .result
-    ≡ shortStore (sizesOf (asked (a .cells .now) [] [] [])) (callSizes (length (a .keys .now)) (a .b))
+    ≡ shortStore (sizesOf (asked (a .cells .now) [] [] [] [])) (callSizes (length (a .keys .now)) (a .b))
 short-is p = rw (p .before .call-sizes .ensures) at (p .short-store .ensures)
 
 returns-4 : tie.Need-returns-4

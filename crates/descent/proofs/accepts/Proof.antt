@@ -3,7 +3,7 @@ use mathlib.Core.Path.{_∙_}
 use Prim.Native.Nat.{_+_}
 use native.Mathlib.Omega.{arith}
 use Rattle.tables.specs.Delimiters.{delimiters}
-use Rattle.splits.specs.Splits.{len}
+use Rattle.walks.specs.Walk.{storedLength}
 use Rattle.descent.proofs.Steps.{not-accepted, last-test}
 use borrow.Author.Needs.{needs}
 use Rattle.descent.proofs.accepts.Statement.{statement}
@@ -11,30 +11,30 @@ use Rattle.descent.proofs.accepts.Tie as tie
 
 returns : tie.Need-returns
 returns c =
-    let a = c .before .before .before .args in
+    let a = c .before .before .before .before .args in
     let T = delimiters (a .b) (a .keys .now) in
-    not-accepted T (len T) (a .x) (a .f) (a .last + 1) (a .m)
+    not-accepted T (storedLength (a .lengths .now)) (a .x) (a .f) (a .last + 1) (a .m)
     (λ K. omega (arith, K .pos, K .small))
 
 returns-2 : tie.Need-returns-2
 returns-2 c =
-    let a = c .before .before .before .before .before .args in
+    let a = c .before .before .before .before .before .before .args in
     let T = delimiters (a .b) (a .keys .now) in
-    not-accepted T (len T) (a .x) (a .f) (a .last + 1) (a .m) (λ K. omega (arith, K .reach))
+    not-accepted T (storedLength (a .lengths .now)) (a .x) (a .f) (a .last + 1) (a .m) (λ K. omega (arith, K .reach))
 
 returns-3 : tie.Need-returns-3
 returns-3 c =
-    let a = c .before .before .before .before .before .before .args in
+    let a = c .before .before .before .before .before .before .before .args in
     let T = delimiters (a .b) (a .keys .now) in
-    not-accepted T (len T) (a .x) (a .f) (a .last + 1) (a .m) (λ K. omega (arith, K .short))
+    not-accepted T (storedLength (a .lengths .now)) (a .x) (a .f) (a .last + 1) (a .m) (λ K. omega (arith, K .short))
 
 returns-4 : tie.Need-returns-4
 returns-4 c =
-    let a = c .before .before .before .before .before .before .before .args in
+    let a = c .before .before .before .before .before .before .before .before .args in
     let T = delimiters (a .b) (a .keys .now) in
-    c .on-path .ensures
-    ∙ last-test T (len T) (a .x) (a .f) (a .last + 1) (a .m) (omega arith) (omega arith)
-    (omega arith) (omega arith)
+    c .agrees .ensures
+    ∙ last-test T (storedLength (a .lengths .now)) (a .x) (a .f) (a .last + 1) (a .m) _ (omega arith) (omega arith)
+    (omega arith) (omega arith) (omega arith)
 
 pub accepts-spec : {M : Type 1} → statement M
 accepts-spec =

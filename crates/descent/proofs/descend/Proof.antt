@@ -3,31 +3,31 @@
 use Prim.Native.Nat.{_+_, _-_}
 use native.Mathlib.Omega.{arith}
 use Rattle.tables.specs.Delimiters.{delimiters}
-use Rattle.splits.specs.Splits.{len}
+use Rattle.walks.specs.Walk.{storedLength}
 use Rattle.descent.specs.Inner.{handleValue}
 use Rattle.descent.proofs.Steps.{Going, going-start, going-next, going-end}
 use Rattle.descent.proofs.descend.Statement.{statement}
 use Rattle.descent.proofs.descend.Tie as tie
 
 abbrev Inv-loop : tie.InvT-loop
-Inv-loop keys b n seed3 handles x root l node₀ lower₀ last₀ probes₀ node lower last probes =
-    Going (delimiters b keys) (len (delimiters b keys)) x (handleValue b keys handles seed3 x) root node lower (last + 1) probes
+Inv-loop keys b n seed3 handles lengths x root l node₀ lower₀ last₀ probes₀ node lower last probes =
+    Going (delimiters b keys) (storedLength lengths) x (handleValue b keys handles seed3 x) root node lower (last + 1) probes
 
 abbrev μ-loop : tie.MeasureT-loop
-μ-loop keys b n seed3 handles x root l node₀ lower₀ last₀ probes₀ node lower last probes = 64 - probes
+μ-loop keys b n seed3 handles lengths x root l node₀ lower₀ last₀ probes₀ node lower last probes = 64 - probes
 
 loop-holds : tie.Need-loop-holds Inv-loop μ-loop
 loop-holds c =
-    let s = c .before .before in
+    let s = c .before .before .before in
     let a = s .args in
     let N = s .pre .1 in
-    going-start (delimiters (a .b) (a .keys .now)) (len (delimiters (a .b) (a .keys .now))) (a .x)
+    going-start (delimiters (a .b) (a .keys .now)) (storedLength (a .lengths .now)) (a .x)
     (handleValue (a .b) (a .keys .now) (a .handles .now) (a .seed3) (a .x)) (a .root) (a .l) _
     (N .is) (N .split .pos) (N .split .small) (N .short) (omega arith)
 
 probe-requires : tie.Need-probe-requires Inv-loop μ-loop
 probe-requires c κs =
-    let s = c .before .before .before .before in
+    let s = c .before .before .before .before .before in
     let i = c .before .loop .inv in (
       s .pre .0,
       record {

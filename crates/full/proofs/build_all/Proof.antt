@@ -9,10 +9,10 @@ use Rattle.full.proofs.build_all.Tie as tie
 
 -- from where the maps were built
 abbrev start : tie.After-build-maps → tie.Start
-start m = m .before .before .before .before .before .before .before .before .before .before .before .before
+start m = m .before .before .before .before .before .before .before .before .before .before .before .before .before .before
 
 abbrev told : tie.After-known-told → tie.After-build-maps
-told r = r .before .before .before .before .before .before .before .before .before .before .before .before .before
+told r = r .before .before .before .before .before .before .before .before .before .before .before .before .before .before .before
 
 abbrev built : tie.After-full-sizes → tie.After-build-maps
 built f = told (f .before)
@@ -21,25 +21,25 @@ built f = told (f .before)
 abbrev left-by : tie.After-build-maps → Stores
 left-by m =
     let l = m .build-maps .last .1 .1 .1 .1 .1 in
-    lent (l .0) (l .1 .0) (l .1 .1 .0) (l .1 .1 .1 .0) (l .1 .1 .1 .1 .0)
+    lent (l .0) (l .1 .0) (l .1 .1 .0) (l .1 .1 .1 .0) (l .1 .1 .1 .1 .0) (l .1 .1 .1 .1 .1 .0)
 
 clear-stores-requires : tie.Need-clear-stores-requires
 clear-stores-requires c κs =
-    let f = c .before .before .before .before .before in
+    let f = c .before .before .before .before .before .before in
     let m = built f in
     let kept = m .build-maps .kept .1 .1 .1 .1 .1 in
     still-fits (start m .pre) (left-by m) (f .full-sizes .ensures) (kept .0) (kept .1 .0) (kept .1 .1 .0)
-    (kept .1 .1 .1 .0) (kept .1 .1 .1 .1 .0)
+    (kept .1 .1 .1 .0) (kept .1 .1 .1 .1 .0) (kept .1 .1 .1 .1 .1 .0)
 
 returns : tie.Need-returns
 returns c =
-    let m = c .before .before .before .before .before .before .before .before .before .before .before .before in
+    let m = c .before .before .before .before .before .before .before .before .before .before .before .before .before .before in
     all-stands (start m .pre) (left-by m) (m .build-maps .ensures) (c .enum-told .given .1)
 
 returns-2 : tie.Need-returns-2
 returns-2 c =
-    let k = c .before .before .before .before .before .before .before .before .before .before in
-    let f = k .before .before .before .before .before .before in
+    let k = c .before .before .before .before .before .before .before .before .before .before .before .before in
+    let f = k .before .before .before .before .before .before .before in
     let m = built f in
     all-cleared (start m .pre) (left-by m) (m .build-maps .ensures) (f .before .before .map .given .1)
     (k .clear-stores .ensures ∙ ap (λ (w : Sizes). clearedStores w (left-by m)) (f .full-sizes .ensures))
@@ -58,7 +58,9 @@ build-all-spec =
     (λ c. search needs)
     (λ c. search needs)
     (λ c. search needs)
+    (λ c. search needs)
     returns
+    (λ c. search needs)
     (λ c. search needs)
     (λ c. search needs)
     (λ c. search needs)

@@ -16,7 +16,7 @@ use Rattle.full.proofs.full_build.Tie as tie
 
 -- from where the lengths were named
 abbrev keys-known : tie.After-named-lengths → tie.After-shared-slice-known
-keys-known l = l .before .before .before .before .before .before
+keys-known l = l .before .before .before .before .before .before .before
 
 abbrev start : tie.After-named-lengths → tie.Start
 start l = keys-known l .before
@@ -25,14 +25,15 @@ start l = keys-known l .before
 abbrev stores : tie.Start → Stores
 stores s =
     lent (s .args .cells .now) (s .args .handles .now) (s .args .left .now) (s .args .right .now) (s .args .work .now)
+    (s .args .lengths .now)
 
 -- from where refusals 3 and 4 were judged
-abbrev lengths : tie.After-judge → tie.After-named-lengths
-lengths j = j .before .before .before .before
+abbrev told : tie.After-judge → tie.After-named-lengths
+told j = j .before .before .before .before
 
-named : (j : tie.After-judge) → let s = start (lengths j) in
+named : (j : tie.After-judge) → let s = start (told j) in
     Named (length (s .args .keys .now)) (s .args .b) (j .before .before .want .given .0 .0)
-named j = named-by _ _ _ (sym (ap saidByLend (j .before .before .want .given .1)) ∙ lengths j .named-lengths .ensures)
+named j = named-by _ _ _ (sym (ap saidByLend (j .before .before .want .given .1)) ∙ told j .named-lengths .ensures)
 
 returns : tie.Need-returns
 returns c =
@@ -46,7 +47,7 @@ returns c =
 returns-2 : tie.Need-returns-2
 returns-2 c =
     let j = c .before .before .before in
-    let s = start (lengths j) in
+    let s = start (told j) in
     refusal _ _
     (judged-by (s .args .keys .now) (s .args .b) (sizesOf (stores s)) (named j)
     (sym (ap saidByJudge (c .before .refusal2 .given .1)) ∙ j .judge .ensures))
@@ -54,16 +55,16 @@ returns-2 c =
 
 build-all-requires : tie.Need-build-all-requires
 build-all-requires c κs =
-    let t = c .before .before .before .before .before in
+    let t = c .before .before .before .before .before .before in
     let j = t .before .before in
-    let s = start (lengths j) in
+    let s = start (told j) in
     let keys = s .args .keys .now in
     let b = s .args .b in
     let passed : fullJudged keys b (stores s) ≡ taken = judged-by keys b (sizesOf (stores s)) (named j)
     (sym (ap saidByJudge (t .enum-told .given .1)) ∙ j .judge .ensures) in
     record {
       judged = passed;
-      table = no-fall-table keys (λ i l. keys-known (lengths j) .shared-slice-known .given i .fits)
+      table = no-fall-table keys (λ i l. keys-known (told j) .shared-slice-known .given i .fits)
           (judged-passed keys b (sizesOf (stores s)) (fullSizes (length keys) b) passed .rises);
     }
 
@@ -85,4 +86,5 @@ full-build-spec =
     (λ c. search needs)
     (λ c. search needs)
     (λ c. search needs)
-    (λ c. c .before .before .before .before .before .before .before .before .before .before .build-all .ensures))
+    (λ c. search needs)
+    (λ c. c .before .before .before .before .before .before .before .before .before .before .before .before .build-all .ensures))

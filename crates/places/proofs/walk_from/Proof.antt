@@ -8,13 +8,13 @@ use Rattle.places.proofs.walk_from.Statement.{statement}
 use Rattle.places.proofs.walk_from.Tie as tie
 
 returns : tie.Need-returns
-returns c = c .tell .ensures ∙ says-none _ _ _ _ _ _ (omega arith)
+returns c = c .tell .ensures ∙ says-none _ _ _ _ _ _ _ (omega arith)
 
 returns-2 : tie.Need-returns-2
-returns-2 c = c .tell2 .ensures ∙ says-one-low _ _ _ _ _ _ (omega arith) (omega arith)
+returns-2 c = c .tell2 .ensures ∙ says-one-low _ _ _ _ _ _ _ (omega arith) (omega arith)
 
 returns-3 : tie.Need-returns-3
-returns-3 c = c .tell3 .ensures ∙ says-one-high _ _ _ _ _ _ (omega arith) (omega arith)
+returns-3 c = c .tell3 .ensures ∙ says-one-high _ _ _ _ _ _ _ (omega arith) (omega arith)
 
 pub walk-from-spec : {M : Type 1} → statement M
 walk-from-spec =

@@ -4,35 +4,36 @@ use Prim.Native.Nat.{_≤_, _<_}
 use native.Mathlib.Omega.{arith}
 use lib.ListN.{length}
 use Rattle.tables.specs.Delimiters.{delimiters}
-use Rattle.splits.specs.Splits.{len}
+use Rattle.walks.specs.Walk.{storedLength}
 use Rattle.places.specs.Said.{refused, saidByNeighbour, walkSays}
 use Rattle.places.proofs.Telling.{says-bad, says-low, says-high, says-walk}
 use borrow.Author.Needs.{needs}
 use Rattle.places.proofs.walk_splits.Statement.{statement}
 use Rattle.places.proofs.walk_splits.Tie as tie
 
-two : (c : tie.After-entry-at) → let a = c .before .before .before .before .before .args in
+two : (c : tie.After-entry-at) → let a = c .before .before .before .before .before .before .args in
     2 ≤ length (delimiters (a .b) (a .keys .now))
 two c = omega arith
 
 -- the root split is one
-rooted : (c : tie.Else3) → let a = c .before .before .before .before .before .before .before .before .before .args in
+rooted : (c : tie.Else3) → let p = c .before .before .before .before in
+    let a = p .before .before .before .before .before .before .args in
     let T = delimiters (a .b) (a .keys .now) in
-    let r = c .before .before .before .before .entry-at .result in
-    (0 < r) × (r < length T) × (len T r ≤ 63)
+    let r = p .entry-at .result in
+    (0 < r) × (r < length T) × (storedLength (a .lengths .now) r ≤ 63)
 rooted c = (omega arith, omega arith, omega arith)
 
 -- the root split is none, or too long
-bad : (c : tie.After-entry-at) → let a = c .before .before .before .before .before .args in
+bad : (c : tie.After-entry-at) → let a = c .before .before .before .before .before .before .args in
     let T = delimiters (a .b) (a .keys .now) in
     let r = c .entry-at .result in
-    ((0 < r) × (r < length T) × (len T r ≤ 63) → ⊥) → refused 6 0 ≡ walkSays T (a .handles .now)
-    (a .left .now) (a .right .now) (a .seed3) (a .x)
+    ((0 < r) × (r < length T) × (storedLength (a .lengths .now) r ≤ 63) → ⊥) → refused 6 0 ≡ walkSays T (a .handles .now)
+    (a .left .now) (a .right .now) (a .lengths .now) (a .seed3) (a .x)
 bad c fails =
-    let a = c .before .before .before .before .before .args in
+    let a = c .before .before .before .before .before .before .args in
     let T = delimiters (a .b) (a .keys .now) in
-    says-bad T (a .handles .now) (a .left .now) (a .right .now) (a .seed3) (a .x) (two c) (c .entry-at .result)
-    (c .entry-at .ensures) fails
+    says-bad T (a .handles .now) (a .left .now) (a .right .now) (a .lengths .now) (a .seed3) (a .x) (two c)
+    (c .entry-at .result) (c .entry-at .ensures) fails
 
 returns : tie.Need-returns
 unfolding saidByNeighbour
@@ -51,7 +52,7 @@ decide-requires : tie.Need-decide-requires
 decide-requires c κs =
     let d = c .before .before .descend .ensures in
     let p = c .before .before .before .before .before .before .before .before .before in
-    let L = p .before .before .before .before .before .pre .0 .counted in
+    let L = p .before .before .before .before .before .before .pre .0 .counted in
     (L, record { bucketed = L .bucketed; pos = d .pos; small = d .small }, d .short)
 
 returns-4 : tie.Need-returns-4
@@ -59,28 +60,31 @@ returns-4 c =
     let e = c .before .before .before .before .before .before in
     let p = e .before .before .before .before in
     let t = c .before .before .before .before in
-    let on = sym (t .before .on-path .ensures) ∙ t .if4 .taken in
+    let on = sym (t .before .agrees .ensures) ∙ t .if4 .taken in
     let d = c .before .before .before .descend .ensures in
     c .decide .ensures
-    ∙ says-walk _ _ _ _ _ _ (two p) (p .entry-at .result) (p .entry-at .ensures) (rooted e) on _ _ _ _ _
+    ∙ says-walk _ _ _ _ _ _ _ (two p) (p .entry-at .result) (p .entry-at .ensures) (rooted e)
+    _ (omega arith) on _ _ _ _ _
     (d .node-is) (d .probes-is) (d .lower-is) (c .before .before .entry-at2 .ensures) (c .before .entry-at3 .ensures)
 
 returns-5 : tie.Need-returns-5
 returns-5 c =
     let e = c .before .before .before .before .before in
     let p = e .before .before .before .before in
-    let off = sym (c .before .before .before .before .on-path .ensures) ∙ c .before .before .before .if4 .left in
+    let off = sym (c .before .before .before .before .agrees .ensures) ∙ c .before .before .before .if4 .left in
     c .tell .ensures
-    ∙ says-low _ _ _ _ _ _ (two p) (p .entry-at .result) (p .entry-at .ensures) (rooted e) off (omega arith)
+    ∙ says-low _ _ _ _ _ _ _ (two p) (p .entry-at .result) (p .entry-at .ensures) (rooted e)
+    _ (omega arith) off (omega arith)
 
 returns-6 : tie.Need-returns-6
 returns-6 c =
     let e = c .before .before .before .before .before in
     let p = e .before .before .before .before in
-    let off = sym (c .before .before .before .before .on-path .ensures) ∙ c .before .before .before .if4 .left in
+    let off = sym (c .before .before .before .before .agrees .ensures) ∙ c .before .before .before .if4 .left in
     c .tell2 .ensures
-    ∙ says-high _ _ _ _ _ _ (two p) (p .entry-at .result) (p .entry-at .ensures) (rooted e) off (omega arith) _
-    (p .before .before .before .before .before .pre .0 .counted .rows)
+    ∙ says-high _ _ _ _ _ _ _ (two p) (p .entry-at .result) (p .entry-at .ensures) (rooted e)
+    _ (omega arith) off (omega arith) _
+    (p .before .before .before .before .before .before .pre .0 .counted .rows)
 
 pub walk-splits-spec : {M : Type 1} → statement M
 walk-splits-spec =

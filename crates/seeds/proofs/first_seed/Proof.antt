@@ -11,18 +11,18 @@ use Rattle.seeds.proofs.first_seed.Statement.{statement}
 use Rattle.seeds.proofs.first_seed.Tie as tie
 
 abbrev Inv-loop : tie.InvT-loop
-Inv-loop keys b cells₀ handles₀ left₀ right₀ work₀ seed₀ cells handles left right work seed =
+Inv-loop keys b cells₀ handles₀ left₀ right₀ work₀ lengths₀ seed₀ cells handles left right work lengths seed =
     ((s : ℕ) → s < seed → SeedJams keys b s) × (seed ≤ 255)
 
 abbrev μ-loop : tie.MeasureT-loop
-μ-loop keys b cells₀ handles₀ left₀ right₀ work₀ seed₀ cells handles left right work seed = 255 - seed
+μ-loop keys b cells₀ handles₀ left₀ right₀ work₀ lengths₀ seed₀ cells handles left right work lengths seed = 255 - seed
 
 loop-holds : tie.Need-loop-holds Inv-loop μ-loop
 loop-holds c = ((λ s h. absurd (omega arith)), omega arith)
 
 -- at the loop, from where this seed was tried
 abbrev turn : tie.After-try-seed Inv-loop μ-loop → tie.At-loop Inv-loop μ-loop
-turn t = t .before .before .before .before .before .before
+turn t = t .before .before .before .before .before .before .before
 
 -- where it jammed
 jam : (z : tie.After-size Inv-loop μ-loop) → let t = z .before .before in

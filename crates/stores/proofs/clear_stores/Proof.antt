@@ -6,16 +6,17 @@ use Rattle.stores.proofs.clear_stores.Tie as tie
 
 returns : tie.Need-returns
 returns c =
-    let five = c .before .before in
+    let six = c .before .before in
+    let five = six .before .before .before .before in
     let four = five .before .before .before .before in
     let three = four .before .before .before .before in
     let two = three .before .before .before .before in
     stores-same (two .before .before .before .before .clear .ensures) (two .clear2 .ensures) (three .clear3 .ensures)
-    (four .clear4 .ensures) (five .clear5 .ensures)
+    (four .clear4 .ensures) (five .clear5 .ensures) (six .clear-bytes .ensures)
 
 pub clear-stores-spec : {M : Type 1} → statement M
 clear-stores-spec =
     tie.close
     (tie.spec (λ c κs. search needs) (λ c κs. search needs) (λ c κs. search needs) (λ c κs. search needs)
-    (λ c κs. search needs) (λ c. search needs) (λ c. search needs) (λ c. search needs) (λ c. search needs)
-    (λ c. search needs) returns)
+    (λ c κs. search needs) (λ c κs. search needs) (λ c. search needs) (λ c. search needs) (λ c. search needs)
+    (λ c. search needs) (λ c. search needs) (λ c. search needs) returns)

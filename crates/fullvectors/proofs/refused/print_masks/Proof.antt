@@ -5,10 +5,10 @@ use Rattle.fullvectors.proofs.refused.print_masks.Statement.{statement}
 use Rattle.fullvectors.proofs.refused.print_masks.Tie as tie
 
 abbrev Inv-loop : tie.InvT-loop
-Inv-loop keys mask₀ mask = mask ≤ 32
+Inv-loop keys mask₀ mask = mask ≤ 64
 
 abbrev μ-loop : tie.MeasureT-loop
-μ-loop keys mask₀ mask = 32 - mask
+μ-loop keys mask₀ mask = 64 - mask
 
 pub print-masks-spec : {M : Type 1} → statement M
 print-masks-spec =

@@ -13,16 +13,16 @@ use Rattle.rowanswer.proofs.run.answer_in.Tie as tie
 print-answers-requires : tie.Need-print-answers-requires
 unfolding Chose
 print-answers-requires c κs =
-    let q = c .before .before .before .before .before .before .before .before .before .before in
+    let q = c .before .before .before .before .before .before .before .before .before .before .before .before in
     (rw (q .seed .given .1) at (q .before .before .first-seed .ensures)) .2 .answers
 
 returns : tie.Need-returns
 unfolding Chose
 returns c =
     let p = c .before .before in
-    let q = p .before .before .before .before .before .before .before .before .before .before .before in
+    let q = p .before .before .before .before .before .before .before .before .before .before .before .before .before in
     let f = q .before .before in
-    let a = f .before .before .before .before .before .before .before .before .before .args in
+    let a = f .before .before .before .before .before .before .before .before .before .before .args in
     let chose = rw (q .seed .given .1) at (f .first-seed .ensures) in
     let took = chose .2 in (
       answered (a .keys .now) (a .asks .now),
@@ -35,7 +35,7 @@ returns-2 c =
     let p = c .before .before in
     let q = p .before .before .before in
     let f = q .before .before in
-    let a = f .before .before .before .before .before .before .before .before .before .args in
+    let a = f .before .before .before .before .before .before .before .before .before .before .args in
     let refused = rw (q .refusal .given .1) at (f .first-seed .ensures) in
     (refusedText (number (q .refusal .given .0 .0)), (refuses-text (a .asks .now) refused, p .refuse .ensures))
 
@@ -45,7 +45,7 @@ returns-3 c =
     let p = c .before .before in
     let q = p .before .before .before in
     let f = q .before .before in
-    let a = f .before .before .before .before .before .before .before .before .before .args in
+    let a = f .before .before .before .before .before .before .before .before .before .before .args in
     let jammed = rw (q .size .given .1) at (f .first-seed .ensures) in
     (jamText (q .size .given .0 .0), (jam-text (a .asks .now) (jammed .0) (jammed .1), p .refuse-jam .ensures))
 

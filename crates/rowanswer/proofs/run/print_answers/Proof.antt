@@ -7,7 +7,7 @@ use Rattle.rowanswer.proofs.run.print_answers.Tie as tie
 returns : tie.Need-returns
 returns c =
     let w = c .before .before .before .before in
-    let s = w .before .before .before .before .before .before .before .before .before in
+    let s = w .before .before .before .before .before .before .before .before .before .before in
     head-off (s .args .keys .now) (s .args .asks .now) (s .args .out .now) (w .write-head .last .0)
     (rw (c .enum-told .given .1) at (w .write-head .ensures))
 
@@ -16,9 +16,9 @@ returns-2 c =
     let a = c .before .before .before in
     let i = a .before .before .before in
     let w = i .before .before .before .before in
-    let s = w .before .before .before .before .before .before .before .before .before in
+    let s = w .before .before .before .before .before .before .before .before .before .before in
     answers-shown (s .args .keys .now) (s .args .asks .now) (s .args .out .now) (w .write-head .last .0)
-    (a .answer-asks .last .1 .1 .1 .1 .1 .1 .1 .1 .0) _
+    (a .answer-asks .last .1 .1 .1 .1 .1 .1 .1 .1 .1 .0) _
     (rw (i .i .given .1) at (w .write-head .ensures)) (a .answer-asks .result) (c .or .result)
     (a .answer-asks .ensures) (c .or .ensures)
 
