@@ -71,7 +71,7 @@ fn print_right(n: u16, keys: &[u64], seed: u64)
 
 fn print_lengths(n: u16, keys: &[u64], seed: u64) {
     let rows = n as usize;
-    let at = root(keys, seed) as usize;
+    let at = root(keys, 2, seed) as usize;
     print_false(b"stores=lengths", n, keys, seed, mixed(1, rows, 19, 65));
     print_false(b"stores=long", n, keys, seed, same(at, at + 1, 64));
     print_false(b"stores=zero-lengths", n, keys, seed, same(0, rows, 0));

@@ -80,15 +80,21 @@ pub fn tried(
     }
 }
 
-// What the build says with the same seed for all maps, in stores as long as 32,768 keys in buckets of 256 rows ask for.
-pub fn verdict(keys: &[u64], b: usize, seed: u64) -> Verdict {
+// What the build says, and the root that it leaves in entry 0 of `left`.
+struct Rooted {
+    said: Verdict,
+    root: u16,
+}
+
+// The build with the same seed for all maps, in stores as long as 32,768 keys in buckets of 256 rows ask for.
+fn built(keys: &[u64], b: usize, seed: u64) -> Rooted {
     let mut cells = [0u16; 41463];
     let mut handles = [0u16; 41292];
     let mut left = [0u16; 32768];
     let mut right = [0u16; 32768];
     let mut work = [0u16; 148126];
     let mut lengths = [0u8; 32768];
-    full::full_build(
+    let said = full::full_build(
         keys,
         b,
         seed,
@@ -100,31 +106,19 @@ pub fn verdict(keys: &[u64], b: usize, seed: u64) -> Verdict {
         &mut right,
         &mut work,
         &mut lengths,
-    )
+    );
+    Rooted {
+        said: said,
+        root: left[0],
+    }
 }
 
-// The root that the build leaves in entry 0 of `left`, of at most 2,000 keys in buckets of two rows.
-pub fn root(keys: &[u64], seed: u64) -> u16 {
-    let mut cells = [0u16; 3798];
-    let mut handles = [0u16; 2526];
-    let mut left = [0u16; 2000];
-    let mut right = [0u16; 2000];
-    let mut work = [0u16; 9058];
-    let mut lengths = [0u8; 2000];
-    full::full_build(
-        keys,
-        2,
-        seed,
-        seed,
-        seed,
-        &mut cells,
-        &mut handles,
-        &mut left,
-        &mut right,
-        &mut work,
-        &mut lengths,
-    );
-    left[0]
+pub fn verdict(keys: &[u64], b: usize, seed: u64) -> Verdict {
+    built(keys, b, seed).said
+}
+
+pub fn root(keys: &[u64], b: usize, seed: u64) -> u16 {
+    built(keys, b, seed).root
 }
 
 fn takes(keys: &[u64], b: usize, seed: u64) -> bool {
