@@ -5,7 +5,7 @@
 //   TABLE  t: calls of a timetable; r: random 64-bit keys
 //   WORK   s: find seeds that the build takes, and digest stores and answers (for comparing two programs)
 //          f: TIMES full builds
-//          H, M, R: one full build, then TIMES call asks of hits, near misses, random keys
+//          H, M, R: one full build, then TIMES call asks of hits, near misses, random keys; no row is withdrawn
 //          h, m, r: one full build, then TIMES neighbour asks of them
 // TIMES is at most 32,768.
 #include "entries.h"
@@ -18,6 +18,7 @@
 static u64 keys[MOST], asks[MOST], seeds[4]; // the seed of map m at m
 static u16 cells[2 * CELLS + BEYOND], handles[CELLS + BEYOND], left[MOST + BEYOND], right[MOST + BEYOND], work[2 * CELLS + 2 * MOST + BEYOND];
 static u8 lengths[MOST + BEYOND];
+static u8 bytes[MOST + BEYOND]; // of the rows, all 0 until compare() withdraws some
 static u16 *const store[STORES - 1] = {cells, handles, left, right, work}; // and the lengths
 static size_t named[STORES], lent[STORES]; // the named length of each store, and how much of it is lent
 
@@ -120,7 +121,7 @@ static u64 build(size_t n, u64 b) {
     return index_full_build(keys, n, b, seeds[1], seeds[2], seeds[3], cells, lent[0], handles, lent[1], left, lent[2], right, lent[3], work, lent[4],
                             lengths, lent[5]);
 }
-static u64 call_ask(size_t n, u64 b, u64 x) { return index_call_ask(keys, n, b, seeds[1], seeds[2], cells, lent[0], x); }
+static u64 call_ask(size_t n, u64 b, u64 x) { return index_call_ask(keys, n, bytes, n, b, seeds[1], seeds[2], cells, lent[0], x); }
 static u64 near_ask(size_t n, u64 x) {
     return index_neighbour_ask(keys, n, seeds[3], handles, lent[1], left, lent[2], right, lent[3], lengths, lent[5], x);
 }
@@ -149,10 +150,11 @@ static void refusals(size_t n, u64 b) {
     tried(n, b), tried(n, 1), tried(n, 257), tried(MOST + 1, 1);
 }
 
-// All that two programs have to agree on: what builds say and leave, for seeds that jam too; the answers; then the answers over false lengths
-// alone, none of them over 63 and the root's the last to go, over a root of 64 bits and over damaged stores; and the refusals.
+// All that two programs have to agree on: what builds say and leave, for seeds that jam too; the answers; those of the call index with some rows
+// withdrawn, and with row bytes and cells of more lengths; then the answers over false lengths alone, none of them over 63 and the root's the last
+// to go, over a root of 64 bits and over damaged stores; and the refusals.
 static void compare(size_t n, u64 b, size_t times) {
-    u64 probes = 0, found = 0, said;
+    u64 probes = 0, found = 0, withdrawn = 0, said;
     tried(0, b);
     for (u64 seed = 0; n <= 500 && seed < 64; seed++) { // small maps jam often
         seeds[1] = seeds[2] = seeds[3] = seed;
@@ -170,6 +172,19 @@ static void compare(size_t n, u64 b, size_t times) {
         }
     }
     print("found=", found), print("probes=", probes);
+    for (size_t i = 0; i < MOST + BEYOND; i++) bytes[i] = random() % 4 ? 0 : (random() & 255) >> random() % 8;
+    for (int k = 0; k < 3; k++) {
+        choose(n, k);
+        for (size_t i = 0; i < times; i++) {
+            u64 c = call_ask(n, b, asks[i]);
+            note(c), withdrawn += c != ABSENT && c >= WITHDRAWN(0);
+        }
+    }
+    print("withdrawn=", withdrawn);
+    size_t rows[] = {n, n - 1, n + BEYOND};
+    choose(n, 0);
+    for (size_t i = 0; i < times; i++)
+        note(index_call_ask(keys, n, bytes, rows[i % 3], b, seeds[1], seeds[2], cells, named[0] - i / 3 % 2, asks[i]));
     for (int k = 0; k < 6; k++) {
         for (size_t i = 0; i < MOST; i++)
             if (k > 2 || i != left[0]) lengths[i] ^= random() & random() & random() & random() & 63;
@@ -186,9 +201,9 @@ static void compare(size_t n, u64 b, size_t times) {
         lengths[i] ^= random() & random() & random() & random();
     }
     for (size_t i = 0; i < times; i++) note(call_ask(n, b, asks[i])), note(near_ask(n, asks[i]));
-    note(index_call_ask(keys, n, 1, 0, 0, cells, 9, 0));
-    note(index_call_ask(keys, n, 2, 0, 0, cells, 9, 0));
-    note(index_call_ask(keys, MOST + 1, 2, 0, 0, cells, 9, 0));
+    note(index_call_ask(keys, n, bytes, 0, 1, 0, 0, cells, 9, 0));
+    note(index_call_ask(keys, n, bytes, 0, 2, 0, 0, cells, 9, 0));
+    note(index_call_ask(keys, MOST + 1, bytes, 0, 1, 0, 0, cells, 9, 0));
     note(index_neighbour_ask(keys, n, 0, handles, 1, left, MOST, right, MOST, lengths, MOST, 0));
     note(index_neighbour_ask(keys, n, 0, handles, CELLS, left, 0, right, MOST, lengths, MOST, 0));
     note(index_neighbour_ask(keys, n, 0, handles, CELLS, left, MOST, right, 0, lengths, MOST, 0));

@@ -93,7 +93,7 @@ int main(int argc, char **argv) {
 
     const size_t cells_n = 2 * 41295, handles_n = 41295, work_n = 2 * 41295 + 2 * 32768;
     std::vector<u16> cells(cells_n), handles(handles_n), left(n), right(n), work(work_n);
-    std::vector<u8> lengths(n);
+    std::vector<u8> lengths(n), bytes(n); // no row is withdrawn
     u64 seeds[4]; // the seed of map m at m
     for (size_t b : {2, 16, 256}) {
         auto build = [&] {
@@ -104,7 +104,7 @@ int main(int argc, char **argv) {
         while (u64 said = build()) seeds[said & 3]++; // a refusal names the map that jams
         double t = least(n, 15, build);
         row(("call index (twin), B=" + std::to_string(b)).c_str(), t, asks,
-            [&](u64 x) { return index_call_ask(keys.data(), n, b, seeds[1], seeds[2], cells.data(), cells_n, x); });
+            [&](u64 x) { return index_call_ask(keys.data(), n, bytes.data(), n, b, seeds[1], seeds[2], cells.data(), cells_n, x); });
     }
     row("neighbour index (twin)", -1, asks, [&](u64 x) {
         return index_neighbour_ask(keys.data(), n, seeds[3], handles.data(), handles_n, left.data(), n, right.data(), n, lengths.data(), n, x);

@@ -1,7 +1,7 @@
 // An unverified twin of the proved library in plain C: the same algorithms (an item is hashed three times and taken out when its turn
 // comes, the seed is mixed once for a map, remainders come from one reciprocal for a map, the 2-fattest number from the highest differing bit),
-// the same memory (u64 keys, u16 cells, left, right and work, u8 lengths) and the same checks in the same order. Items are computed and not
-// stored, as only 16-bit numbers and bytes are lent. So what is left of a difference is what the proved code's form costs.
+// the same memory (u64 keys, u16 cells, left, right and work, u8 lengths and row bytes) and the same checks in the same order. Items are
+// computed and not stored, as only 16-bit numbers and bytes are lent. So what is left of a difference is what the proved code's form costs.
 //
 // Variants, for finding out what a choice is worth (none is defined for the comparison):
 //   DIVISION      remainders by M from a division for each, and not from the reciprocal of M
@@ -317,7 +317,8 @@ u64 index_full_build(const u64 *keys, size_t n, size_t b, u64 seed1, u64 seed2, 
     return JAMMED(map, size);
 }
 
-u64 index_call_ask(const u64 *keys, size_t n, size_t b, u64 seed1, u64 seed2, const u16 *cells, size_t cells_n, u64 x) {
+u64 index_call_ask(const u64 *keys, size_t n, const u8 *bytes, size_t bytes_n, size_t b, u64 seed1, u64 seed2, const u16 *cells,
+                   size_t cells_n, u64 x) {
     if (n > MOST)
         return REFUSED(1, 0);
     if (b < 2 || b > 256)
@@ -325,12 +326,16 @@ u64 index_call_ask(const u64 *keys, size_t n, size_t b, u64 seed1, u64 seed2, co
     size_t k = bucket_count(n, b), c = cell_count(n);
     if (cells_n < c + cell_count(k))
         return REFUSED(4, 1);
+    if (bytes_n < n)
+        return REFUSED(4, 7);
     u16 value = look_up(cells, n, seed1, x);
     unsigned length = value / 256, offset = value % 256;
     if (length > 63)
         return ABSENT;
     size_t row = look_up(cells + c, k, seed2, prefix_item(x, length)) * b + offset;
-    return row < n && keys[row] == x ? row : ABSENT;
+    if (row >= n || keys[row] != x)
+        return ABSENT;
+    return bytes[row] == 0 ? row : WITHDRAWN(row);
 }
 
 static inline u64 place(const u64 *keys, size_t n, u64 x, size_t before, u64 probes) {

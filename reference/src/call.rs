@@ -1,4 +1,4 @@
-//! The call index: a planned key gets its row, any other key is absent.
+//! The call index: a key of the table gets its row, planned or withdrawn, and any other key is absent.
 
 use crate::bits::{prefix_item, shared_bits};
 use crate::maps;
@@ -75,26 +75,51 @@ pub fn judge_limits(keys: &[u64], bucket: usize) -> Result<(), Refusal> {
     }
 }
 
-/// The row of x, or none where x is absent.
+/// What the call index says of a key. A withdrawn key keeps its row.
+#[derive(Clone, Copy, Debug, PartialEq, Eq)]
+pub enum Outcome {
+    /// The key stands in this row, and the row's byte is 0.
+    Planned(usize),
+    /// The key stands in this row, and the row's byte is not 0.
+    Withdrawn(usize),
+    Absent,
+}
+
+impl Outcome {
+    /// The row, planned or withdrawn.
+    pub fn row(self) -> Option<usize> {
+        match self {
+            Outcome::Planned(row) | Outcome::Withdrawn(row) => Some(row),
+            Outcome::Absent => None,
+        }
+    }
+}
+
+/// What is known of x, with a byte for each row beside the table.
 pub fn ask(
     keys: &[u64],
+    row_bytes: &[u8],
     bucket: usize,
     seeds: [u64; 2],
     cells: &[u16],
     x: u64,
-) -> Result<Option<usize>, Refusal> {
+) -> Result<Outcome, Refusal> {
     judge_limits(keys, bucket)?;
     let n = keys.len();
     judge_store(1, cells.len(), cells_named(n, bucket))?;
+    judge_store(7, row_bytes.len(), n)?;
 
     let value = usize::from(maps::lookup(x, seeds[0], n, cells));
     let (length, offset) = (value / 256, value % 256);
     if length > 63 {
-        return Ok(None);
+        return Ok(Outcome::Absent);
     }
     let second = &cells[maps::cell_count(n)..];
     let item = prefix_item(x, length as u32);
     let i = usize::from(maps::lookup(item, seeds[1], bucket_count(n, bucket), second));
     let row = i * bucket + offset;
-    Ok(if row < n && keys[row] == x { Some(row) } else { None })
+    if row >= n || keys[row] != x {
+        return Ok(Outcome::Absent);
+    }
+    Ok(if row_bytes[row] == 0 { Outcome::Planned(row) } else { Outcome::Withdrawn(row) })
 }

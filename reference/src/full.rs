@@ -51,15 +51,16 @@ impl Stores {
         lengths[..named[5]].fill(0);
     }
 
-    /// Asks the call index in these stores.
+    /// Asks the call index in these stores, with the row bytes beside them.
     pub fn call(
         &self,
         keys: &[u64],
+        row_bytes: &[u8],
         bucket: usize,
         seeds: [u64; 2],
         x: u64,
-    ) -> Result<Option<usize>, Refusal> {
-        call::ask(keys, bucket, seeds, &self.cells, x)
+    ) -> Result<call::Outcome, Refusal> {
+        call::ask(keys, row_bytes, bucket, seeds, &self.cells, x)
     }
 
     /// Asks the neighbour index in these stores.

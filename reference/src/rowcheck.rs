@@ -103,11 +103,13 @@ pub fn build(keys: &[u64], bucket: usize) -> Result<Built, BuildRefusal> {
 fn answers(input: &Input) -> Result<String, BuildRefusal> {
     let (keys, bucket) = (&input.keys, input.bucket);
     let Built { seed, stores } = build(keys, bucket)?;
+    // No row is withdrawn: the input has no word for it.
+    let row_bytes = vec![0; keys.len()];
     let mut text = format!("keys={}\n", keys.len());
     for &x in &input.asks {
-        let row = stores.call(keys, bucket, [seed; 2], x)?;
+        let outcome = stores.call(keys, &row_bytes, bucket, [seed; 2], x)?;
         let near = stores.neighbour(keys, seed, x)?;
-        let row = row.map_or("none".to_string(), |row| row.to_string());
+        let row = outcome.row().map_or("none".to_string(), |row| row.to_string());
         let (before, probes) = (near.before, near.probed.len());
         write!(text, "ask={x:016x}\ncall={row}\nbefore={before}\nprobes={probes}\n").unwrap();
     }

@@ -2,6 +2,7 @@
 //! A check that fails stops the program.
 
 use crate::bits::{agree, prefix_item, shared_bits, two_fattest};
+use crate::call::Outcome;
 use crate::full::{self, Stores};
 use crate::gen::Gen;
 use crate::keys::{pack, unpack, Fields};
@@ -17,7 +18,7 @@ use std::collections::BTreeSet;
 type Group = (&'static str, fn() -> usize);
 
 pub fn run() {
-    let groups: [Group; 18] = [
+    let groups: [Group; 21] = [
         ("constants", constants),
         ("bits", bits),
         ("key fields", key_fields),
@@ -26,6 +27,9 @@ pub fn run() {
         ("answers after accepted builds", answers),
         ("refusals of the build", build_refusals),
         ("refusals of the asks", ask_refusals),
+        ("planned, withdrawn or absent", outcomes),
+        ("withdrawn rows over damaged cells", damaged_cells),
+        ("all faults of a call ask together", call_faults),
         ("spoiled bounds", spoiled_bounds),
         ("a false length by hand", false_length),
         ("rows read, by hand", rows_read),
@@ -246,21 +250,31 @@ fn asks(keys: &[u64], rows: usize, gen: &mut Gen) -> Vec<u64> {
     asks
 }
 
+/// Keys that share their first bits and differ in few places, which make deep trees.
+fn deep_table(n: usize, gen: &mut Gen) -> Vec<u64> {
+    let base = gen.next();
+    let width = 6 + gen.below(58);
+    gen.rising(n, |gen| base ^ ((gen.next() & gen.next()) >> (63 - width)))
+}
+
 fn check_answers(keys: &[u64], bucket: usize, rows: usize, gen: &mut Gen) -> usize {
     let Built { seed, stores } = rowcheck::build(keys, bucket).unwrap();
     let n = keys.len();
     let shared = keys.iter().map(|&key| shared_bits(keys[0], key)).min().unwrap_or(0);
     let most_probes = if n < 2 { 0 } else { 32 - (63 - shared).leading_zeros() };
 
+    let row_bytes = vec![0; n];
     for (row, &key) in keys.iter().enumerate() {
-        assert_eq!(stores.call(keys, bucket, [seed; 2], key), Ok(Some(row)));
+        let outcome = stores.call(keys, &row_bytes, bucket, [seed; 2], key);
+        assert_eq!(outcome, Ok(Outcome::Planned(row)));
     }
     let every = (n / (rows + 1)).max(1);
     let mut all = asks(keys, rows, gen);
     all.extend(keys.iter().step_by(every));
     for &x in &all {
         let row = keys.iter().position(|&key| key == x);
-        assert_eq!(stores.call(keys, bucket, [seed; 2], x), Ok(row));
+        let outcome = stores.call(keys, &row_bytes, bucket, [seed; 2], x);
+        assert_eq!(outcome, Ok(row.map_or(Outcome::Absent, Outcome::Planned)));
         let answer = stores.neighbour(keys, seed, x).unwrap();
         assert_eq!(answer.before, keys.iter().filter(|&&key| key < x).count());
         assert_eq!(answer.stands, row.is_some());
@@ -283,11 +297,8 @@ fn answers() -> usize {
     }
     checks += check_answers(&samples::eleven_keys(), 3, 1000, &mut gen);
     for round in 0..600 {
-        // Keys that share their first bits and differ in few places make deep trees.
         let n = gen.below(40) as usize;
-        let base = gen.next();
-        let width = 6 + gen.below(58);
-        let keys = gen.rising(n, |gen| base ^ ((gen.next() & gen.next()) >> (63 - width)));
+        let keys = deep_table(n, &mut gen);
         checks += check_answers(&keys, 2 + round % 20, 60, &mut gen);
     }
     for name in ["spread", "clustered"] {
@@ -356,13 +367,15 @@ fn build_refusals() -> usize {
 
 fn ask_refusals() -> usize {
     let [cells, handles, ..] = full::named(4, 2);
-    let call = |keys: &[u64], bucket: usize, cells: usize| {
-        call::ask(keys, bucket, [0; 2], &vec![0; cells], 1)
+    let call = |keys: &[u64], bucket: usize, cells: usize, row_bytes: usize| {
+        call::ask(keys, &vec![0; row_bytes], bucket, [0; 2], &vec![0; cells], 1)
     };
-    assert_eq!(call(&too_many(), 1, 0), refused(1, 0));
-    assert_eq!(call(&FALLING, 0, 0), refused(2, 0));
-    assert_eq!(call(&FALLING, 2, cells - 1), refused(4, 1));
-    assert_eq!(call(&FALLING, 2, cells), Ok(Some(0)));
+    assert_eq!(call(&too_many(), 1, 0, 0), refused(1, 0));
+    assert_eq!(call(&FALLING, 0, 0, 0), refused(2, 0));
+    assert_eq!(call(&FALLING, 2, cells - 1, 3), refused(4, 1));
+    assert_eq!(call(&FALLING, 2, cells, 3), refused(4, 7));
+    assert_eq!(call(&FALLING, 2, cells, 4), Ok(Outcome::Planned(0)));
+    assert_eq!(call(&[], 2, 18, 0), Ok(Outcome::Absent));
 
     let neighbour = |keys: &[u64], [handles, left, right, lengths]: [usize; 4]| {
         let stores = Stores::filled([0, handles, left, right, 0, lengths], |_| 0);
@@ -380,7 +393,160 @@ fn ask_refusals() -> usize {
     assert_eq!(neighbour(&[5], [9, 1, 0, 1]), refused(4, 4));
     assert_eq!(neighbour(&[5], [9, 1, 1, 0]), refused(4, 6));
     assert_eq!(neighbour(&[5], [9, 1, 1, 1]), Ok(0));
-    16
+    18
+}
+
+/// A byte of a row: mostly one at an end of its range, and else any.
+fn row_byte(gen: &mut Gen) -> u8 {
+    match gen.below(8) {
+        0..=2 => 0,
+        3 => 1,
+        4 => 2,
+        5 => 255,
+        _ => gen.next() as u8,
+    }
+}
+
+/// What the call ask has to say of x over stores that a build left: the table is gone through, and
+/// then the byte of the row is looked at.
+fn searched(keys: &[u64], row_bytes: &[u8], x: u64) -> Outcome {
+    let Some(row) = keys.iter().position(|&key| key == x) else { return Outcome::Absent };
+    match row_bytes[row] {
+        0 => Outcome::Planned(row),
+        1..=255 => Outcome::Withdrawn(row),
+    }
+}
+
+/// Every key of a table and many others, under row bytes that change while the stores stay.
+fn outcomes() -> usize {
+    let mut gen = Gen::new(10);
+    let mut checks = 0;
+    // By outcome, and of the rows by their bytes.
+    let (mut absent, mut rows) = (0, [0; 256]);
+    for round in 0..1500 {
+        let n = gen.below(40) as usize;
+        let keys = deep_table(n, &mut gen);
+        let bucket = [2, 3, 5, 16, 255, 256][round % 6];
+        let Built { seed, stores } = rowcheck::build(&keys, bucket).unwrap();
+        let mut all = asks(&keys, 20, &mut gen);
+        all.extend(&keys);
+        for _ in 0..3 {
+            let row_bytes: Vec<u8> = keys.iter().map(|_| row_byte(&mut gen)).collect();
+            let mut longer = row_bytes.clone();
+            longer.extend((0..1 + gen.below(4)).map(|_| gen.next() as u8));
+            for &x in &all {
+                let outcome = searched(&keys, &row_bytes, x);
+                assert_eq!(stores.call(&keys, &row_bytes, bucket, [seed; 2], x), Ok(outcome));
+                assert_eq!(stores.call(&keys, &longer, bucket, [seed; 2], x), Ok(outcome));
+                match outcome.row() {
+                    Some(row) => rows[usize::from(row_bytes[row])] += 1,
+                    None => absent += 1,
+                }
+                // The neighbour index is lent no row bytes: it counts the withdrawn keys too, and
+                // finds them.
+                let near = stores.neighbour(&keys, seed, x).unwrap();
+                assert_eq!(near.before, keys.iter().filter(|&&key| key < x).count());
+                assert_eq!(near.stands.then_some(near.before), outcome.row());
+                checks += 4;
+            }
+        }
+    }
+    assert!(absent > 10_000 && rows.iter().all(|&count| count > 20), "{absent} {rows:?}");
+    checks
+}
+
+/// Over cells that no build left, in tables that may hold a key twice: whatever row is told, the key
+/// stands there, its byte decides how it is told, and which row it is no byte decides.
+fn damaged_cells() -> usize {
+    let mut gen = Gen::new(11);
+    let mut checks = 0;
+    let mut seen = [0; 3];
+    for round in 0..2000 {
+        let n = gen.below(40) as usize;
+        let mut keys = deep_table(n, &mut gen);
+        let bucket = [2, 3, 16, 256][round % 4];
+        let Built { seed, mut stores } = rowcheck::build(&keys, bucket).unwrap();
+        // Few cells damaged, cells of small numbers, and any cells.
+        match round % 3 {
+            0 => stores.cells.iter_mut().step_by(7).for_each(|cell| *cell ^= gen.next() as u16),
+            1 => stores.cells.fill_with(|| gen.below(4) as u16),
+            _ => stores.cells.fill_with(|| gen.next() as u16),
+        }
+        if round % 5 == 0 && n > 0 {
+            let twice = keys[gen.below(n as u64) as usize];
+            keys.iter_mut().step_by(2).for_each(|key| *key = twice);
+        }
+        let row_bytes: Vec<u8> = keys.iter().map(|_| row_byte(&mut gen)).collect();
+        let mut all = asks(&keys, 10, &mut gen);
+        all.extend(&keys);
+        for x in all {
+            let outcome = stores.call(&keys, &row_bytes, bucket, [seed; 2], x).unwrap();
+            let told = match outcome {
+                Outcome::Planned(row) => {
+                    assert!(keys[row] == x && row_bytes[row] == 0);
+                    0
+                }
+                Outcome::Withdrawn(row) => {
+                    assert!(keys[row] == x && row_bytes[row] > 0);
+                    1
+                }
+                Outcome::Absent => 2,
+            };
+            seen[told] += 1;
+            let planned = stores.call(&keys, &vec![0; n], bucket, [seed; 2], x).unwrap();
+            assert_eq!(planned, outcome.row().map_or(Outcome::Absent, Outcome::Planned));
+            let withdrawn = stores.call(&keys, &vec![1; n], bucket, [seed; 2], x).unwrap();
+            assert_eq!(withdrawn, outcome.row().map_or(Outcome::Absent, Outcome::Withdrawn));
+            checks += 3;
+        }
+    }
+    assert!(seen.iter().all(|&count| count > 2000), "{seen:?}");
+    checks
+}
+
+/// Every set of the faults that a call ask judges, for a key that stands in the table and for one
+/// that doesn't: the refusal is that of the first fault.
+fn call_faults() -> usize {
+    let few = samples::table("spread", 17);
+    let built = rowcheck::build_with(&few, 3, 0).unwrap().stores.cells;
+    let many = too_many();
+    let mut checks = 0;
+    for faults in 0..16 {
+        let fault = |i: usize| faults >> i & 1 == 1;
+        let numbers = [(1, 0), (2, 0), (4, 1), (4, 7)];
+        let first = (0..4).find(|&i| fault(i)).map(|i| numbers[i]);
+        let (keys, cells) = if fault(0) {
+            (&many, vec![0; call::cells_named(many.len(), 3)])
+        } else {
+            (&few, built.clone())
+        };
+        let buckets = if fault(1) { vec![0, 1, 257, usize::MAX] } else { vec![3] };
+        let sizes = |named: usize, short: bool| match short {
+            true => [named - 1, 0],
+            false => [named, named + 1],
+        };
+        let mut check = |bucket: usize, cells: &[u16], row_bytes: &[u8]| {
+            for x in [few[5], few[5] + 1] {
+                let expected = match first {
+                    Some((number, named)) => refused(number, named),
+                    None => Ok(searched(keys, row_bytes, x)),
+                };
+                assert_eq!(call::ask(keys, row_bytes, bucket, [0; 2], cells, x), expected);
+                checks += 1;
+            }
+        };
+        for bucket in buckets {
+            for entries in sizes(cells.len(), fault(2)) {
+                let mut cells = cells.clone();
+                cells.resize(entries, 0);
+                for rows in sizes(keys.len(), fault(3)) {
+                    check(bucket, &cells, &vec![0; rows]);
+                    check(bucket, &cells, &vec![9; rows]);
+                }
+            }
+        }
+    }
+    checks
 }
 
 /// Spoiled bounds are judged at the root and at the last node only.
@@ -483,9 +649,7 @@ fn false_lengths() -> usize {
     let mut seen = [0; 4];
     for round in 0..2000 {
         let n = 2 + gen.below(30) as usize;
-        let base = gen.next();
-        let width = 6 + gen.below(58);
-        let mut keys = gen.rising(n, |gen| base ^ ((gen.next() & gen.next()) >> (63 - width)));
+        let mut keys = deep_table(n, &mut gen);
         let Built { seed, mut stores } = rowcheck::build(&keys, 2).unwrap();
         let (built, root) = (stores.clone(), usize::from(stores.left[0]));
         let most = [64, 66, 256][round % 3];
@@ -671,7 +835,8 @@ fn check_left(keys: &[u64], bucket: usize, seeds: [u64; 3], refusal: Option<Refu
     assert_eq!(stores.right[..n], wanted.right);
     check_lengths(keys, &stores.lengths);
     for (row, &key) in keys.iter().enumerate() {
-        assert_eq!(stores.call(keys, bucket, [seeds[0], seeds[1]], key), Ok(Some(row)));
+        let outcome = stores.call(keys, &vec![0; n], bucket, [seeds[0], seeds[1]], key);
+        assert_eq!(outcome, Ok(Outcome::Planned(row)));
         assert_eq!(stores.neighbour(keys, seeds[2], key).unwrap().before, row);
     }
 }

@@ -1,5 +1,6 @@
 //! The texts that docs/VECTORS.md describes.
 
+use crate::call::Outcome;
 use crate::full::{self, Stores};
 use crate::keys::{pack, unpack, Fields};
 use crate::mix::{item_hash, mix, STEP};
@@ -229,8 +230,7 @@ fn answers(text: &mut String) {
         let keys = table(name, n);
         for bucket in [2, 3, 16, 255, 256] {
             let Built { seed, stores } = first_taken(&keys, bucket);
-            let Found { found, digest } = ask_call(&keys, bucket, seed, &stores.cells);
-            let call = format!("found={found} call={digest:016x}");
+            let call = call_words("call", &keys, bucket, seed, &stores.cells);
             let Probed { sum, most, digest } = ask_neighbour(&keys, seed, &stores);
             let neighbour = format!("probes={sum} most={most} neighbour={digest:016x}");
             line!(text, "table={name} keys={n} bucket={bucket} seed={seed} {call} {neighbour}");
@@ -252,26 +252,50 @@ fn refusal_code(refusal: Refusal) -> u64 {
     (1 << 32) + u64::from(refusal.number)
 }
 
-/// How many asks gave a row, and the digest of all answers.
+/// How many asks gave a planned and how many a withdrawn row, and the digest of all answers.
 struct Found {
-    found: usize,
+    planned: usize,
+    withdrawn: usize,
     digest: u64,
 }
 
-fn ask_call(keys: &[u64], bucket: usize, seed: u64, cells: &[u16]) -> Found {
-    let mut told = Found { found: 0, digest: 1 };
+fn ask_call(keys: &[u64], row_bytes: &[u8], bucket: usize, seed: u64, cells: &[u16]) -> Found {
+    let mut told = Found { planned: 0, withdrawn: 0, digest: 1 };
     for x in asks(keys) {
-        let code = match call::ask(keys, bucket, [seed; 2], cells, x) {
-            Ok(Some(row)) => {
-                told.found += 1;
+        let code = match call::ask(keys, row_bytes, bucket, [seed; 2], cells, x) {
+            Ok(Outcome::Planned(row)) => {
+                told.planned += 1;
                 row as u64 + 1
             }
-            Ok(None) => 0,
+            Ok(Outcome::Withdrawn(row)) => {
+                told.withdrawn += 1;
+                65_536 + row as u64 + 1
+            }
+            Ok(Outcome::Absent) => 0,
             Err(refusal) => refusal_code(refusal),
         };
         told.digest = mix(told.digest.wrapping_add(code));
     }
     told
+}
+
+/// Row bytes of which about every fourth is not 0.
+fn mixed_bytes(n: usize) -> Vec<u8> {
+    let byte = |i: u64| match mix(i + 23) % 4 {
+        0 => 1 + mix(i + 29) % 255,
+        _ => 0,
+    };
+    (0..n as u64).map(|i| byte(i) as u8).collect()
+}
+
+/// What the asks tell where all row bytes are 0, the digest after this tag, and where they are mixed.
+fn call_words(tag: &str, keys: &[u64], bucket: usize, seed: u64, cells: &[u16]) -> String {
+    let n = keys.len();
+    let Found { planned, withdrawn, digest } = ask_call(keys, &vec![0; n], bucket, seed, cells);
+    let found = planned + withdrawn;
+    let zero = format!("found={found} {tag}={digest:016x}");
+    let Found { withdrawn, digest, .. } = ask_call(keys, &mixed_bytes(n), bucket, seed, cells);
+    format!("{zero} withdrawn={withdrawn} marked={digest:016x}")
 }
 
 /// The sum and the largest of the probe counts, and the digest of all answers.
@@ -300,6 +324,7 @@ fn ask_neighbour(keys: &[u64], seed: u64, stores: &Stores) -> Probed {
 
 fn callvectors() -> String {
     let mut text = String::new();
+    outcomes(&mut text);
     for name in ["sequential", "spread", "clustered", "bits"] {
         for n in [0, 1, 2, 3, 17, 64, 65, 256, 257, 2000] {
             if name == "bits" && n > 65 {
@@ -314,6 +339,53 @@ fn callvectors() -> String {
     text
 }
 
+fn told(said: Result<Outcome, Refusal>) -> String {
+    match said {
+        Ok(Outcome::Planned(row)) => format!("planned.{row}"),
+        Ok(Outcome::Withdrawn(row)) => format!("withdrawn.{row}"),
+        Ok(Outcome::Absent) => "absent".to_string(),
+        Err(Refusal { number, named }) => format!("refused={number}.{named}"),
+    }
+}
+
+fn outcomes(text: &mut String) {
+    let (n, bucket) = (17, 3);
+    let keys = table("spread", n);
+    let cells = rowcheck::build_with(&keys, bucket, 0).expect("seed 0 is taken").stores.cells;
+    let row = 5;
+    for byte in [0, 1, 2, 127, 128, 255] {
+        for others in [0, 255] {
+            let mut row_bytes = vec![others; n];
+            row_bytes[row] = byte;
+            let asks = [keys[row - 1], keys[row], keys[row + 1], keys[row] + 1];
+            let [below, at, above, absent] =
+                asks.map(|x| told(call::ask(&keys, &row_bytes, bucket, [0; 2], &cells, x)));
+            line!(
+                text,
+                "byte={byte} others={others} below={below} at={at} above={above} absent={absent}"
+            );
+        }
+    }
+    let mut two = |tag: &str, keys: &[u64], row_bytes: &[u8], bucket: usize, cells: &[u16]| {
+        let [planned, absent] = [keys[row], keys[row] + 1]
+            .map(|x| told(call::ask(keys, row_bytes, bucket, [0; 2], cells, x)));
+        line!(text, "{tag} planned={planned} absent={absent}");
+    };
+    let mut row_bytes = vec![255; n];
+    row_bytes[row] = 0;
+    let (fewer_cells, fewer_bytes) = (&cells[..cells.len() - 1], &row_bytes[..n - 1]);
+    two("short=0", &keys, &row_bytes, bucket, &cells);
+    two("short=1", &keys, &row_bytes, bucket, fewer_cells);
+    two("short=2", &keys, fewer_bytes, bucket, &cells);
+    two("short=3", &keys, fewer_bytes, bucket, fewer_cells);
+    two("long", &keys, &[&row_bytes[..], &[255]].concat(), bucket, &cells);
+    // Each of these has all the faults that are judged later.
+    two("bucket=1", &keys, fewer_bytes, 1, fewer_cells);
+    two("bucket=257", &keys, fewer_bytes, 257, fewer_cells);
+    let keys = table("spread", MOST_KEYS + 1);
+    two(&format!("keys={}", keys.len()), &keys, fewer_bytes, 257, fewer_cells);
+}
+
 fn callvectors_of(text: &mut String, mut keys: Vec<u64>, bucket: usize) {
     let n = keys.len();
     let cell = |rule: &str, i: usize| match rule {
@@ -325,8 +397,8 @@ fn callvectors_of(text: &mut String, mut keys: Vec<u64>, bucket: usize) {
         for rule in ["zero", "few", "random"] {
             let cells: Vec<u16> =
                 (0..call::cells_named(n, bucket)).map(|i| cell(rule, i) as u16).collect();
-            let Found { found, digest } = ask_call(&keys, bucket, 0, &cells);
-            line!(text, "cells={rule}{turned} found={found} digest={digest:016x}");
+            let words = call_words("digest", &keys, bucket, 0, &cells);
+            line!(text, "cells={rule}{turned} {words}");
         }
         keys.reverse();
     }

@@ -1,4 +1,4 @@
--- What inner functions leave.
+-- What inner functions answer and leave.
 use mathlib.Core.Path.{_≡_}
 use mathlib.Core.List.{List}
 use Prim.Native.Nat.{ℕ, _+_, _<_, _≤_}
@@ -6,6 +6,15 @@ use lib.ListN.{length}
 use Rattle.digits.specs.Texts.{placed}
 use Rattle.digits.specs.declared.Next.{Next}
 use Rattle.digits.specs.declared.Next.the-variants.{At, Off}
+use Rattle.outcomes.specs.Outcomes.{Told, planned, withdrawn, absent}
+use Rattle.rowoutput.specs.declared.Called.{Called}
+use Rattle.rowoutput.specs.declared.Called.the-variants.{Row, Absent}
+
+-- what is printed of an outcome: its row or none
+abbrev pub calledOf : Told → Called
+calledOf (planned r) = Row r
+calledOf (withdrawn r) = Row r
+calledOf absent = Absent
 
 -- what a writer of several texts says: the text stands at i, or there is no room for it and a part may have been
 -- written

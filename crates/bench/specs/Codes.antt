@@ -4,6 +4,7 @@ use mathlib.Core.Bool.{Bool, cond}
 use Prim.Native.Nat.{ℕ, _*_, _%_, _^_}
 use lib.Bits.{bitXor}
 use Rattle.refusals.specs.Numbers as build
+use Rattle.outcomes.specs.Outcomes as told
 use Rattle.callask.specs.Ask as call
 use Rattle.neighbour.specs.Ask as near
 
@@ -23,10 +24,15 @@ pub record Coded (Says : build.BuildSaid → Type 0) (code : ℕ) : Type 0 where
   pub is : code ≡ buildCode said
   pub says : Says said
 
--- a call ask: the row, or all ones
+-- an outcome: the planned row, the withdrawn row with bit 32 beside it, or all ones
+abbrev pub outcomeCode : told.Told → ℕ
+outcomeCode (told.planned r) = r
+outcomeCode (told.withdrawn r) = bitXor r 4294967296
+outcomeCode told.absent = 18446744073709551615
+
+-- a call ask: its outcome
 abbrev pub callCode : call.CallSaid → ℕ
-callCode (call.row r) = r
-callCode call.absent = 18446744073709551615
+callCode (call.outcome o) = outcomeCode o
 callCode (call.refused number names) = refusedCode number names
 
 -- bit 40: whether x stands in the table

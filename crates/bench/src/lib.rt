@@ -5,13 +5,16 @@
 // behind it takes.
 ghost use mathlib.Core.Path.{_≡_};
 ghost use Rattle.refusals.specs.Numbers.{number, names, saidByBuild};
+ghost use Rattle.outcomes.specs.Outcomes.{toldBy};
 ghost use Rattle.callask.specs.Ask.{callSays};
 ghost use Rattle.neighbour.specs.Ask.{neighbourSays};
 ghost use Rattle.stores.specs.Stores.{lent, seeds};
 ghost use Rattle.full.specs.Build.{FullBuilt};
-ghost use Rattle.bench.specs.Codes.{refusedCode, buildCode, Coded, callCode, neighbourCode, standsCode};
+ghost use Rattle.bench.specs.Codes.{refusedCode, buildCode, Coded, outcomeCode, callCode, neighbourCode};
+ghost use Rattle.bench.specs.Codes.{standsCode};
 use callask::CallAnswer;
 use neighbour::NeighbourAnswer;
+use outcomes::Outcome;
 use refusals::Refusal;
 use refusals::Verdict;
 
@@ -39,6 +42,16 @@ fn verdict(v: Verdict) -> u64
     }
 }
 
+fn outcome(o: Outcome) -> u64
+    ensures { λ c. ⌜ c ≡ outcomeCode (toldBy o) ⌝ }
+{
+    match o {
+        Outcome::Planned(row) => row as u64,
+        Outcome::Withdrawn(row) => (row as u64) ^ 0x1_0000_0000,
+        Outcome::Absent => 0xFFFF_FFFF_FFFF_FFFF,
+    }
+}
+
 fn flag(stands: bool) -> u64
     ensures { λ c. ⌜ c ≡ standsCode stands ⌝ }
 {
@@ -51,18 +64,19 @@ fn flag(stands: bool) -> u64
 #[no_mangle]
 pub extern "C" fn index_call_ask(
     keys: &[u64],
+    bytes: &[u8],
     b: usize,
     seed1: u64,
     seed2: u64,
     cells: &[u16],
     x: u64,
 ) -> u64
-    ensures { λ c. ⌜ c ≡ callCode (callSays (now (keys .entry)) b seed1 seed2 (now (cells .entry)) x) ⌝ }
+    ensures { λ c. ⌜ c ≡ callCode
+        (callSays (now (keys .entry)) (now (bytes .entry)) b seed1 seed2 (now (cells .entry)) x) ⌝ }
 {
-    let a = callask::call_ask(keys, b, seed1, seed2, cells, x);
+    let a = callask::call_ask(keys, bytes, b, seed1, seed2, cells, x);
     match a {
-        CallAnswer::Row(row) => row as u64,
-        CallAnswer::Absent => 0xFFFF_FFFF_FFFF_FFFF,
+        CallAnswer::Told(o) => outcome(o),
         CallAnswer::Refused(r) => refused(r),
     }
 }

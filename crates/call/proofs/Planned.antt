@@ -1,4 +1,4 @@
--- Over the store that an accepted build leaves, the key of row r is answered row r. Assumes nothing.
+-- Over the store that an accepted build leaves, the rule finds the key of row r in row r. Assumes nothing.
 use mathlib.Core.Path.{_≡_, refl, sym, ap, _∙_}
 use mathlib.Core.List.{List}
 use Prim.Native.Nat.{ℕ, _+_, _*_, _/_, _%_, _≤_, _<_}
@@ -13,9 +13,11 @@ use Rattle.items.specs.Items.{Sorted, keyValues, prefixItems}
 use Rattle.items.proofs.Values.{row-is, length-prefixes, number-is, row-bucket, bits-small, value-length, value-offset}
 use Rattle.items.proofs.Values.{row-prefix}
 use Rattle.call.specs.Build.{CallFilled}
-use Rattle.callask.specs.Ask.{row, rowSays, ruleSays}
+use Rattle.outcomes.specs.Outcomes.{rowSays}
+use Rattle.outcomes.specs.declared.Located.the-variants.{At}
+use Rattle.outcomes.proofs.Standing.{row-found}
+use Rattle.callask.specs.Ask.{ruleSays}
 use Rattle.callask.proofs.Asking.{rule-row}
-use Rattle.callask.proofs.Answers.{row-found}
 
 module _ (keys : List ℕ) (b seed₁ seed₂ : ℕ) (cells cells′ : List ℕ) (S : Sorted b keys)
     (F : CallFilled keys b seed₁ seed₂ cells cells′)
@@ -45,7 +47,7 @@ module _ (keys : List ℕ) (b seed₁ seed₂ : ℕ) (cells cells′ : List ℕ)
       sym (number-is b keys (r / b) (row-bucket b keys S r h)) ∙ sym (F .map₂ .valued (r / b) there)
       ∙ ap (λ (t : ℕ). mapValue part t seed₂ (getD (prefixItems b keys) (r / b) 0)) (length-prefixes b keys)
 
-  pub planned-row : ruleSays keys b seed₁ seed₂ cells′ x ≡ row r
+  pub planned-row : ruleSays keys b seed₁ seed₂ cells′ x ≡ At r
   planned-row =
       let short : value / 256 ≤ 63 = omega (arith, value-length b keys S r h, bits-small b keys S r h) in
       let at : r / b * b + value % 256 ≡ r = ap (λ (o : ℕ). r / b * b + o) (value-offset b keys S r h) ∙ row-is b r in

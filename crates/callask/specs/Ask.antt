@@ -1,33 +1,30 @@
--- Document 01, "Call index": asking x.
+-- Document 01, "Call index", and request Eight: asking x.
 use mathlib.Core.Bool.{cond}
 use mathlib.Core.List.{List, []}
 use Prim.Native.Nat.{ℕ, _+_, _*_, _/_, _%_}
-use lib.Dec.{eqb, ltb}
+use lib.Dec.{ltb}
 use lib.ListN.{length, drop}
 use Rattle.refusals.specs.Numbers.{number, names}
 use Rattle.words.specs.Keys.{prefixItem}
 use Rattle.cells.specs.Cells.{cellCount, mapValue}
-use Rattle.tables.specs.Tables.{mostKeys, keyAt}
+use Rattle.tables.specs.Tables.{mostKeys}
 use Rattle.tables.specs.Delimiters.{buckets}
 use Rattle.stores.specs.Sizes.{shortStore, callSizes}
-use Rattle.stores.specs.Stores.{asked, sizesOf}
+use Rattle.stores.specs.Stores.{asked, sizesBeside}
+use Rattle.outcomes.specs.Outcomes.{Told, rowSays, toldBy, marked}
+use Rattle.outcomes.specs.declared.Located.{Located}
+use Rattle.outcomes.specs.declared.Located.the-variants.{Nowhere}
 use Rattle.callask.specs.declared.CallAnswer.{CallAnswer}
 use Rattle.callask.specs.declared.CallAnswer.the-variants as answer
 
--- what an ask says, in document 01's numbers
+-- what an ask says, in the documents' numbers: an outcome, or a refusal and what it names
 pub data CallSaid : Type 0 where
-  row : ℕ → CallSaid
-  absent : CallSaid
+  outcome : Told → CallSaid
   refused : ℕ → ℕ → CallSaid
 
 abbrev pub saidByCall : CallAnswer → CallSaid
-saidByCall (answer.Row r) = row r
-saidByCall answer.Absent = absent
+saidByCall (answer.Told o) = outcome (toldBy o)
 saidByCall (answer.Refused r) = refused (number r) (names r)
-
--- if row < n and the table's key there equals x, the answer is that row, otherwise absent
-abbrev pub rowSays : List ℕ → ℕ → ℕ → CallSaid
-rowSays keys r x = cond (ltb r (length keys)) (cond (eqb (keyAt keys r) x) (row r) absent) absent
 
 -- the row that the two maps give x: of its map 1 value, length = floor(value/256) and offset = value mod 256; the first
 -- bits of x give the bucket, by map 2 in the part that starts at cell C(n); row = bucket × B + offset
@@ -38,17 +35,18 @@ ruleRow keys b seed₁ seed₂ cells x =
     let bucket = mapValue (drop (cellCount n) cells) (buckets n b) seed₂ (prefixItem x (value / 256)) in
     bucket * b + value % 256
 
--- length over 63: absent; otherwise the row decides
-unfoldable pub ruleSays : List ℕ → ℕ → ℕ → ℕ → List ℕ → ℕ → CallSaid
+-- length over 63: nowhere; otherwise the table's key in that row decides
+unfoldable pub ruleSays : List ℕ → ℕ → ℕ → ℕ → List ℕ → ℕ → Located
 ruleSays keys b seed₁ seed₂ cells x =
-    cond (ltb 63 (mapValue cells (length keys) seed₁ x / 256)) absent
+    cond (ltb 63 (mapValue cells (length keys) seed₁ x / 256)) Nowhere
     (rowSays keys (ruleRow keys b seed₁ seed₂ cells x) x)
 
--- the refusals before the rule, the lowest number first
-unfoldable pub callSays : List ℕ → ℕ → ℕ → ℕ → List ℕ → ℕ → CallSaid
-callSays keys b seed₁ seed₂ cells x =
-    let short = shortStore (sizesOf (asked cells [] [] [] [])) (callSizes (length keys) b) in
+-- the refusals before the rule, the lowest number first, 4 for the call cells (1) and then for the row bytes (7); and
+-- what the row's byte makes of the row
+unfoldable pub callSays : (keys bytes : List ℕ) → ℕ → ℕ → ℕ → List ℕ → ℕ → CallSaid
+callSays keys bytes b seed₁ seed₂ cells x =
+    let short = shortStore (sizesBeside (asked cells [] [] [] []) bytes) (callSizes (length keys) b) in
     cond (ltb mostKeys (length keys)) (refused 1 0)
     (cond (ltb b 2) (refused 2 0)
     (cond (ltb 256 b) (refused 2 0)
-    (cond (ltb 0 short) (refused 4 short) (ruleSays keys b seed₁ seed₂ cells x))))
+    (cond (ltb 0 short) (refused 4 short) (outcome (marked bytes (ruleSays keys b seed₁ seed₂ cells x))))))

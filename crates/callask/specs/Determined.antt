@@ -8,5 +8,6 @@ use Rattle.callask.specs.declared.CallAnswer.{CallAnswer}
 -- any two answers of a call ask on the same input that its statement allows are one
 abbrev pub AskDetermined : Type 0
 AskDetermined =
-    (keys : List ℕ) (b seed₁ seed₂ : ℕ) (cells : List ℕ) (x : ℕ) (r r′ : CallAnswer)
-    → saidByCall r ≡ callSays keys b seed₁ seed₂ cells x → saidByCall r′ ≡ callSays keys b seed₁ seed₂ cells x → r ≡ r′
+    (keys bytes : List ℕ) (b seed₁ seed₂ : ℕ) (cells : List ℕ) (x : ℕ) (r r′ : CallAnswer)
+    → saidByCall r ≡ callSays keys bytes b seed₁ seed₂ cells x
+    → saidByCall r′ ≡ callSays keys bytes b seed₁ seed₂ cells x → r ≡ r′

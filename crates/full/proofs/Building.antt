@@ -60,6 +60,7 @@ module _ {keys : List ℕ} {b : ℕ} {S : Stores} (R : Ready keys b S) where
         right = rw r (F .right);
         work = rw k (F .work);
         lengths = rw m (F .lengths);
+        bytes = F .bytes;
       })
 
   pub storable : {work : List ℕ} → length work ≡ length (S .work)

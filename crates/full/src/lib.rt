@@ -106,7 +106,8 @@ fn build_all(
     }
 }
 
-// Builds both indexes of a table, or refuses with the lowest number that applies, over all stores together.
+// Builds both indexes of a table, or refuses with the lowest number that applies, over all stores together. The row
+// bytes are no store of a build.
 pub fn full_build(
     keys: &[u64],
     b: usize,
@@ -129,7 +130,9 @@ pub fn full_build(
 {
     match stores::named_lengths(keys.len(), b) {
         Lend::Refused(refusal) => Verdict::Refused(refusal),
-        Lend::Sizes(want) => {
+        Lend::Sizes(_) => {
+            // What a caller lends in all has the row bytes too; the build judges its own stores.
+            let want = stores::full_sizes(keys.len(), b);
             let have = Sizes {
                 cells: cells.len(),
                 handles: handles.len(),
@@ -137,6 +140,7 @@ pub fn full_build(
                 right: right.len(),
                 work: work.len(),
                 lengths: lengths.len(),
+                bytes: 0,
             };
             match stores::judge(keys, have, want) {
                 Judged::Refused(refusal) => Verdict::Refused(refusal),

@@ -24,6 +24,7 @@ fn shortened(named: Sizes, mask: usize) -> Sizes {
         right: shorter(named.right, mask / 8 % 2),
         work: shorter(named.work, mask / 16 % 2),
         lengths: shorter(named.lengths, mask / 32 % 2),
+        bytes: named.bytes,
     }
 }
 
@@ -38,6 +39,7 @@ fn lent(mask: usize) -> Sizes {
             right: 0,
             work: 0,
             lengths: 0,
+            bytes: 0,
         },
     }
 }

@@ -16,6 +16,7 @@ fn longer() -> Sizes {
         right: 316,
         work: 1390,
         lengths: 316,
+        bytes: 0,
     }
 }
 

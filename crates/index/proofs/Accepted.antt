@@ -82,6 +82,7 @@ module _ {keys : List ℕ} {b : ℕ} {s : Seeds} {S S′ : Stores} (A : FullAcce
         right = rw (N .right, entered-length n (rightEntry keys) (S .right) (F .right)) (F .right);
         work = zero-le;
         lengths = rw (N .lengths, entered-length n (lengthEntry keys) (S .lengths) (F .lengths)) (F .lengths);
+        bytes = zero-le;
       }
 
   -- and they are what the walk needs

@@ -1,9 +1,9 @@
--- What the stores of an accepted build answer: the walk over them is the walk over the table, and both indexes answer by
--- the table alone. Assumes nothing.
+-- What the stores of an accepted build answer: the walk over them is the walk over the table, and both indexes answer
+-- by the table and the row bytes alone. Assumes nothing.
 use mathlib.Core.Path.{_≡_, refl, sym, ap, _∙_}
 use mathlib.Core.Bool.{cond}
 use mathlib.Core.List.{List}
-use Prim.Native.Nat.{ℕ, _<_}
+use Prim.Native.Nat.{ℕ, _≤_, _<_}
 use native.Mathlib.Nat.{le-refl}
 use native.Mathlib.Omega.{arith}
 use lib.ListN.{length}
@@ -14,16 +14,18 @@ use Rattle.tables.specs.Tables.{keyAt, Table, smaller}
 use Rattle.tables.specs.Lengths.{handleCount}
 use Rattle.stores.specs.Stores.{Stores, Seeds}
 use Rattle.tables.proofs.Rising.{keys-above}
-use Rattle.callask.specs.Ask.{row, callSays, ruleSays}
+use Rattle.outcomes.specs.Outcomes.{marked}
+use Rattle.outcomes.specs.declared.Located.the-variants.{At, Nowhere}
+use Rattle.callask.specs.Ask.{outcome, ruleSays}
 use Rattle.callask.proofs.Asking.{says-rule}
-use Rattle.callask.proofs.Answers.{rule-absent}
+use Rattle.callask.proofs.Answers.{rule-nowhere}
 use Rattle.call.proofs.Planned.{planned-row}
 use Rattle.walks.proofs.Answering.{stored-walk}
 use Rattle.walks.proofs.Deciding.{smaller-low, smaller-high}
 use Rattle.neighbour.specs.Ask.{standsAt}
 use Rattle.neighbour.proofs.Asking.{stands-iff, stored-says, sizes-pass}
 use Rattle.full.specs.Build.{FullBuilt}
-use Rattle.index.specs.Answers.{Words, rowOf, CallsAnswer, CountsAnswer, BuildAnswers}
+use Rattle.index.specs.Answers.{Words, callOver, rowOf, CallsAnswer, CountsAnswer, BuildAnswers}
 use Rattle.index.specs.Demands.{WalksAgree}
 use Rattle.index.proofs.Accepted.{FullAccepted, full-accepted, accepted-table, accepted-sorted}
 use Rattle.index.proofs.Accepted.{accepted-askable, accepted-fits, accepted-stored}
@@ -52,12 +54,13 @@ module _ {keys : List ℕ} {b : ℕ} {s : Seeds} {S S′ : Stores} (B : FullBuil
   A = full-accepted B
 
   -- no refusal comes before the rule
-  pub by-rule : (x : ℕ)
-      → callSays keys b (s .one) (s .two) (S′ .cells) x ≡ ruleSays keys b (s .one) (s .two) (S′ .cells) x
-  by-rule x = says-rule keys b (s .one) (s .two) (S′ .cells) x (accepted-askable A)
+  pub by-rule : (bytes : List ℕ) → length keys ≤ length bytes → (x : ℕ)
+      → callOver keys bytes b s S′ x ≡ outcome (marked bytes (ruleSays keys b (s .one) (s .two) (S′ .cells) x))
+  by-rule bytes long x = says-rule keys bytes b (s .one) (s .two) (S′ .cells) x (accepted-askable A) long
 
-  pub calls-answer : Words keys → CallsAnswer keys b s S′
-  calls-answer w x =
+  -- and the rule tells the row in the table
+  pub rule-is : Words keys → (x : ℕ) → ruleSays keys b (s .one) (s .two) (S′ .cells) x ≡ rowOf At Nowhere keys x
+  rule-is w x =
       let T = accepted-table A w in
       let c = smaller keys x in
       by-test (standsAt keys x c)
@@ -66,11 +69,13 @@ module _ {keys : List ℕ} {b : ℕ} {s : Seeds} {S S′ : Stores} (B : FullBuil
       let at = planned-row keys b (s .one) (s .two) (S .cells) (S′ .cells) (accepted-sorted A w) (A .filled .call)
       (p .0) (p .1) in
       let rank = row-smaller keys T (p .0) (p .1) in
-      by-rule x ∙ rw stands (rw (p .2) at (at ∙ ap row (sym rank))))
+      rw stands (rw (p .2) at (at ∙ ap At (sym rank))))
       (λ off.
-      by-rule x
-      ∙ rule-absent keys x (λ r h e. not-both (stands-iff keys T x .1 (r, h, e)) off) b (s .one) (s .two) (S′ .cells)
+      rule-nowhere keys x b (s .one) (s .two) (S′ .cells) (λ r h e. not-both (stands-iff keys T x .1 (r, h, e)) off)
       ∙ (rw off))
+
+  pub calls-answer : Words keys → CallsAnswer keys b s S′
+  calls-answer w bytes long x = by-rule bytes long x ∙ ap (λ at. outcome (marked bytes at)) (rule-is w x)
 
   pub counts-answer : Words keys → CountsAnswer keys s S′
   counts-answer w x =

@@ -1,6 +1,5 @@
--- The customer's demands, proved. Assumes nothing.
+-- The customer's demands, proved, but for demand 2 (Telling). Assumes nothing.
 use mathlib.Core.Path.{_≡_, sym, ap, _∙_}
-use mathlib.Core.List.{List}
 use mathlib.Core.Logic.{_⊎_, inl, inr, ⊎-elim, _↔_}
 use Prim.Native.Nat.{ℕ, _-_, _≤_, _<_}
 use native.Mathlib.Omega.{arith}
@@ -9,28 +8,22 @@ use Rattle.refusals.specs.Numbers.{BuildSaid, taken, refused, jammed, numberSai
 use Rattle.refusals.proofs.Naming.{not-taken, jam-not-taken, jam-not-refused}
 use Rattle.words.specs.Fat.{binaryDigits, done}
 use Rattle.words.proofs.Probing.{probes-from}
-use Rattle.tables.specs.Tables.{keyAt, Table, smaller, sharedByAll}
-use Rattle.tables.proofs.Rising.{keys-rise, keys-above}
-use Rattle.stores.specs.Stores.{Stores, Seeds}
+use Rattle.tables.specs.Tables.{smaller, sharedByAll}
 use Rattle.stores.proofs.Judging.{one-to-four}
 use Rattle.items.specs.Items.{prefixItems, handleItems}
 use Rattle.splits.proofs.Parents.{length-first, length-split}
 use Rattle.jams.proofs.Jams.{jamless-not-jammed}
 use Rattle.jams.proofs.Largest.{largest-jammed, largest-some}
-use Rattle.callask.specs.Ask.{row, absent, callSays}
-use Rattle.callask.proofs.Answers.{rule-absent, rule-said}
 use Rattle.walks.specs.Walk.{Walk, storeWalk}
 use Rattle.walks.proofs.Answering.{true-lengths}
 use Rattle.neighbour.specs.Ask.{standsAt}
 use Rattle.neighbour.proofs.Asking.{stands-iff, path-probes, ask-six}
-use Rattle.full.specs.Build.{in₁, in₂, in₃, FullBuilt, refusal, jam, accepted}
+use Rattle.full.specs.Build.{in₁, in₂, in₃, refusal, jam, accepted}
 use Rattle.index.specs.Answers.{probesOf}
-use Rattle.index.specs.Demands.{Names, BuildRefusesJams, SizeIsTheLargest, PlannedGetsItsRow, RowsAreSorted}
-use Rattle.index.specs.Demands.{OthersAreAbsent, OneKeyForEachRow, Monotone, SearchIsExact, SixAtMost}
+use Rattle.index.specs.Demands.{Names, BuildRefusesJams, SizeIsTheLargest, SearchIsExact, SixAtMost}
 use Rattle.index.specs.Demands.{LengthsAreTrue, WalkIsUnchanged}
 use Rattle.index.proofs.Accepted.{full-accepted, accepted-table, accepted-stored}
-use Rattle.index.proofs.Answering.{row-smaller, planned-told, by-rule}
-use Rattle.index.proofs.Answering.{calls-answer, counts-answer, walks-agree}
+use Rattle.index.proofs.Answering.{counts-answer, walks-agree}
 
 -- one map is named and no other
 never : {A : Type 0} {said : BuildSaid} {m p : ℕ} (m′ : ℕ) → said ≡ jammed m p → (m ≡ m′ → ⊥) → Names said m′ → A
@@ -138,37 +131,6 @@ size-is-the-largest keys b s S said S′ (jam m p j (in₃ N M L) e c) = (
 size-is-the-largest keys b s S said S′ (accepted j N e F) =
     let none = none-sized (λ m. none-named m e) (ap jamSaid e) (λ five. omega (arith, ap numberSaid e)) in
     (none-named 1 e, none-named 2 e, none-named 3 e, none .0, none .1)
-
--- demand 2
-module _ {keys : List ℕ} {b : ℕ} {s : Seeds} {S S′ : Stores} (B : FullBuilt keys b s S taken S′) where
-  said-row : (x i : ℕ) → callSays keys b (s .one) (s .two) (S′ .cells) x ≡ row i
-      → (i < length keys) × (keyAt keys i ≡ x)
-  said-row x i e = rule-said keys x b (s .one) (s .two) (S′ .cells) i (sym (by-rule B x) ∙ e)
-
-in-order : (keys : List ℕ) → Table keys → (x y i j : ℕ) → (i < length keys) × (keyAt keys i ≡ x)
-    → (j < length keys) × (keyAt keys j ≡ y) → (x < y) ↔ (i < j)
-in-order keys T x y i j p q = (
-  (λ less. let no : ¬ (j ≤ i) = λ g. (omega (arith, keys-rise keys T j i g (p .0))) in omega arith),
-  (λ less. omega (arith, keys-above keys T i j less (q .0))),
-)
-
-pub planned-gets-its-row : PlannedGetsItsRow
-planned-gets-its-row keys b s S S′ w B r h =
-    calls-answer B w (keyAt keys r) ∙ planned-told row absent keys (accepted-table (full-accepted B) w) r h
-
-pub rows-are-sorted : RowsAreSorted
-rows-are-sorted keys b s S S′ w B = row-smaller keys (accepted-table (full-accepted B) w)
-
-pub others-are-absent : OthersAreAbsent
-others-are-absent keys b s S S′ B x h none =
-    by-rule B x ∙ rule-absent keys x none b (s .one) (s .two) (S′ .cells)
-
-pub one-key-for-each-row : OneKeyForEachRow
-one-key-for-each-row keys b s S S′ B = said-row B
-
-pub monotone : Monotone
-monotone keys b s S S′ w B x y i j e f =
-    in-order keys (accepted-table (full-accepted B) w) x y i j (said-row B x i e) (said-row B y j f)
 
 -- 63 - L has at most six binary digits
 digits-six : (L : ℕ) → binaryDigits (63 - L) ≤ 6

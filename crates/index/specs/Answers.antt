@@ -1,8 +1,9 @@
--- What both indexes answer, from the table alone: demands 2 and 3 and what rowcheck prints stand on it.
+-- What both indexes answer, from the table and the row bytes alone: demands 2 and 3 and what rowcheck prints stand on
+-- it.
 use mathlib.Core.Path.{_≡_}
 use mathlib.Core.Bool.{cond}
 use mathlib.Core.List.{List}
-use Prim.Native.Nat.{ℕ, _^_, _<_}
+use Prim.Native.Nat.{ℕ, _^_, _≤_, _<_}
 use lib.ListN.{length, getD}
 use Rattle.refusals.specs.Numbers.{taken}
 use Rattle.words.specs.Keys.{prefixItem}
@@ -10,7 +11,9 @@ use Rattle.cells.specs.Cells.{mapValue}
 use Rattle.tables.specs.Tables.{keyAt, smaller}
 use Rattle.tables.specs.Lengths.{handleCount}
 use Rattle.stores.specs.Stores.{Stores, Seeds}
-use Rattle.callask.specs.Ask.{row, absent, callSays}
+use Rattle.outcomes.specs.Outcomes.{marked}
+use Rattle.outcomes.specs.declared.Located.the-variants.{At, Nowhere}
+use Rattle.callask.specs.Ask.{CallSaid, outcome, callSays}
 use Rattle.splits.specs.Splits.{len}
 use Rattle.walks.specs.Walk.{Walk, walk, pathWalk, storeWalk}
 use Rattle.neighbour.specs.Ask.{NeighbourSaid, place, standsAt, neighbourSays}
@@ -23,6 +26,10 @@ Words keys = (i : ℕ) → i < length keys → keyAt keys i < 2 ^ 64
 -- x's row, which is the number of smaller keys, told by `found`; or `none` where x stands in no row
 abbrev pub rowOf : {A : Type 0} → (ℕ → A) → A → List ℕ → ℕ → A
 rowOf found none keys x = cond (standsAt keys x (smaller keys x)) (found (smaller keys x)) none
+
+-- what a call ask says over stores, with a byte for each row
+abbrev pub callOver : (keys bytes : List ℕ) → ℕ → Seeds → Stores → ℕ → CallSaid
+callOver keys bytes b s S x = callSays keys bytes b (s .one) (s .two) (S .cells) x
 
 -- what a neighbour ask says over stores, and the walk over them, which reads the stored lengths
 abbrev pub neighbourOver : List ℕ → Stores → ℕ → ℕ → NeighbourSaid
@@ -42,9 +49,11 @@ documentWalk keys S seed x =
 abbrev pub probesOf : List ℕ → ℕ → ℕ
 probesOf keys x = length (pathWalk keys x .probed)
 
--- the call index answers every key by its row in the table
+-- the call index answers every key by its row in the table and the byte of that row, whatever bytes are lent
 abbrev pub CallsAnswer : List ℕ → ℕ → Seeds → Stores → Type 0
-CallsAnswer keys b s S = (x : ℕ) → callSays keys b (s .one) (s .two) (S .cells) x ≡ rowOf row absent keys x
+CallsAnswer keys b s S =
+    (bytes : List ℕ) → length keys ≤ length bytes → (x : ℕ)
+    → callOver keys bytes b s S x ≡ outcome (marked bytes (rowOf At Nowhere keys x))
 
 -- the neighbour index answers every key by the number of smaller keys, the probes of the walk, and whether it stands
 -- in the table
@@ -53,7 +62,8 @@ CountsAnswer keys s S =
     (x : ℕ) → neighbourOver keys S (s .three) x
     ≡ place (smaller keys x) (probesOf keys x) (standsAt keys x (smaller keys x))
 
--- stores over which both indexes answer every key as the table says: no seed and no cell occurs in what they answer
+-- stores over which both indexes answer every key as the table and the row bytes say: no seed and no cell occurs in
+-- what they answer
 pub record Answers (keys : List ℕ) (b : ℕ) (s : Seeds) (S : Stores) : Type 0 where
   pub calls : CallsAnswer keys b s S
   pub counts : CountsAnswer keys s S

@@ -1,4 +1,4 @@
--- The customer's demands on the build and the asks, in his order. proofs/Demands.antt proves each.
+-- The customer's demands on the build and the asks, in his order. proofs/{Demands,Telling,Answering} prove them.
 use mathlib.Core.Path.{_≡_}
 use mathlib.Core.Bool.{Bool, true}
 use mathlib.Core.List.{List}
@@ -12,11 +12,12 @@ use Rattle.tables.specs.Tables.{keyAt, smaller, sharedByAll}
 use Rattle.stores.specs.Stores.{Stores, Seeds}
 use Rattle.items.specs.Items.{prefixItems, handleItems}
 use Rattle.jams.specs.Jam.{Jammed, LargestJam}
-use Rattle.callask.specs.Ask.{row, absent, callSays}
+use Rattle.outcomes.specs.Outcomes.{planned, withdrawn, absent}
+use Rattle.callask.specs.Ask.{CallSaid, outcome}
 use Rattle.walks.specs.Walk.{pathWalk}
 use Rattle.neighbour.specs.Ask.{place}
 use Rattle.full.specs.Build.{fullJudged, FullBuilt}
-use Rattle.index.specs.Answers.{Words, neighbourOver, walkOver, documentWalk}
+use Rattle.index.specs.Answers.{Words, callOver, neighbourOver, walkOver, documentWalk}
 
 -- x stands in no row
 abbrev pub NotIn : ℕ → List ℕ → Type 0
@@ -50,36 +51,71 @@ SizeIsTheLargest =
     × ((numberSaid said ≡ 5) ↔ (Names said 1 ⊎ (Names said 2 ⊎ Names said 3)))
     × ((0 < jamSaid said) ↔ (numberSaid said ≡ 5))
 
--- Demand 2: after an accepted build, asked with its own inputs, a planned key gets its sorted row ..
+-- Demand 2, as request Eight reads it: what is said of x gives a row as planned exactly if x stands there and the row's
+-- byte is zero, as withdrawn exactly if x stands there and the byte isn't zero; and x is absent exactly if it stands in
+-- no row
+pub record Tells (keys bytes : List ℕ) (x : ℕ) (said : CallSaid) : Type 0 where
+  pub as-planned : (r : ℕ)
+      → (said ≡ outcome (planned r)) ↔ ((r < length keys) × (keyAt keys r ≡ x) × (getD bytes r 0 ≡ 0))
+  pub as-withdrawn : (r : ℕ)
+      → (said ≡ outcome (withdrawn r)) ↔ ((r < length keys) × (keyAt keys r ≡ x) × (getD bytes r 0 ≡ 0 → ⊥))
+  pub as-absent : (said ≡ outcome absent) ↔ NotIn x keys
+
+-- so it is after an accepted build, asked with its own inputs and any byte for each row: the build has not seen the
+-- bytes, and they may be others at each ask
+abbrev pub CallTells : Type 0
+CallTells =
+    (keys : List ℕ) (b : ℕ) (s : Seeds) (S S′ : Stores) → Words keys → FullBuilt keys b s S taken S′
+    → (bytes : List ℕ) → length keys ≤ length bytes → (x : ℕ) → x < 2 ^ 64
+    → Tells keys bytes x (callOver keys bytes b s S′ x)
+
+-- where no run is withdrawn, a planned key gets its sorted row ..
 abbrev pub PlannedGetsItsRow : Type 0
 PlannedGetsItsRow =
     (keys : List ℕ) (b : ℕ) (s : Seeds) (S S′ : Stores) → Words keys → FullBuilt keys b s S taken S′
-    → (r : ℕ) → r < length keys → callSays keys b (s .one) (s .two) (S′ .cells) (keyAt keys r) ≡ row r
+    → (bytes : List ℕ) → length keys ≤ length bytes → ((r : ℕ) → r < length keys → getD bytes r 0 ≡ 0)
+    → (r : ℕ) → r < length keys → callOver keys bytes b s S′ (keyAt keys r) ≡ outcome (planned r)
 
--- .. 0 for the smallest: the row of a key is the number of smaller keys
+-- .. 0 for the smallest: the row of a key, withdrawn or not, is the number of smaller keys
 abbrev pub RowsAreSorted : Type 0
 RowsAreSorted =
     (keys : List ℕ) (b : ℕ) (s : Seeds) (S S′ : Stores) → Words keys → FullBuilt keys b s S taken S′
     → (r : ℕ) → r < length keys → smaller keys (keyAt keys r) ≡ r
 
--- .. and every other 64-bit key is reported absent
+-- .. and, whatever the bytes, every other 64-bit key is reported absent
 abbrev pub OthersAreAbsent : Type 0
 OthersAreAbsent =
     (keys : List ℕ) (b : ℕ) (s : Seeds) (S S′ : Stores) → FullBuilt keys b s S taken S′
-    → (x : ℕ) → x < 2 ^ 64 → NotIn x keys → callSays keys b (s .one) (s .two) (S′ .cells) x ≡ absent
+    → (bytes : List ℕ) → length keys ≤ length bytes
+    → (x : ℕ) → x < 2 ^ 64 → NotIn x keys → callOver keys bytes b s S′ x ≡ outcome absent
 
--- so rows and planned keys correspond one to one: a row is answered only for the one key that stands there
+-- a row is told, one way or the other
+abbrev pub InRow : CallSaid → ℕ → Type 0
+InRow said r = (said ≡ outcome (planned r)) ⊎ (said ≡ outcome (withdrawn r))
+
+-- whatever the table and the stores hold, a row is told only of the one key that stands there; so after an accepted
+-- build rows and keys correspond one to one
 abbrev pub OneKeyForEachRow : Type 0
 OneKeyForEachRow =
-    (keys : List ℕ) (b : ℕ) (s : Seeds) (S S′ : Stores) → FullBuilt keys b s S taken S′
-    → (x i : ℕ) → callSays keys b (s .one) (s .two) (S′ .cells) x ≡ row i → (i < length keys) × (keyAt keys i ≡ x)
+    (keys bytes : List ℕ) (b : ℕ) (s : Seeds) (S : Stores) (x r : ℕ) → InRow (callOver keys bytes b s S x) r
+    → (r < length keys) × (keyAt keys r ≡ x)
 
--- monotone hashing, as Belazzougui, Boldi, Pagh and Vigna define it: the rows of the planned keys keep their order
+-- a withdrawn key keeps its row: whatever the table and the stores hold, a key that was told in a row stays in it under
+-- any other n bytes or more, and is told as withdrawn exactly if the byte there isn't zero
+abbrev pub WithdrawnKeepsItsRow : Type 0
+WithdrawnKeepsItsRow =
+    (keys bytes bytes′ : List ℕ) (b : ℕ) (s : Seeds) (S : Stores) (x r : ℕ)
+    → InRow (callOver keys bytes b s S x) r → length keys ≤ length bytes′
+    → InRow (callOver keys bytes′ b s S x) r
+    × ((callOver keys bytes′ b s S x ≡ outcome (withdrawn r)) ↔ (getD bytes′ r 0 ≡ 0 → ⊥))
+
+-- monotone hashing, as Belazzougui, Boldi, Pagh and Vigna define it: the rows of the keys, withdrawn or not, keep their
+-- order
 abbrev pub Monotone : Type 0
 Monotone =
     (keys : List ℕ) (b : ℕ) (s : Seeds) (S S′ : Stores) → Words keys → FullBuilt keys b s S taken S′
-    → (x y i j : ℕ) → callSays keys b (s .one) (s .two) (S′ .cells) x ≡ row i
-    → callSays keys b (s .one) (s .two) (S′ .cells) y ≡ row j → (x < y) ↔ (i < j)
+    → (bytes bytes′ : List ℕ) (x y i j : ℕ) → InRow (callOver keys bytes b s S′ x) i
+    → InRow (callOver keys bytes′ b s S′ y) j → (x < y) ↔ (i < j)
 
 -- Demand 3: over the stores that an accepted build left for a table of two or more keys, the search gives for any
 -- 64-bit key the exact number of smaller table keys, and whether it stands in the table; the reported count is the

@@ -1,5 +1,5 @@
--- What is stated of the entries beyond their contracts: what they answer, from the table alone; the customer's
--- demands; and the worked cases of document 01.
+-- What is stated of the entries beyond their contracts: what they answer, from the table and the row bytes alone; the
+-- customer's demands; and the worked cases of document 01.
 pub mod Answers
 pub mod Demands
 pub mod Worked

@@ -14,6 +14,7 @@ pub use full::full_build;
 pub use neighbour::NeighbourAnswer;
 pub use neighbour::Place;
 pub use neighbour::neighbour_ask;
+pub use outcomes::Outcome;
 pub use refusals::Refusal;
 pub use refusals::Verdict;
 pub use stores::Lend;

@@ -1,7 +1,7 @@
 -- What an ask says: what each answer says is told by no other, over what an accepted build leaves it is the number of
 -- smaller keys, and over any stores at most six probes are reported. Assumes nothing.
 use mathlib.Core.Path.{_≡_, refl, sym, ap}
-use mathlib.Core.Bool.{Bool, true, false, cond}
+use mathlib.Core.Bool.{Bool, true, cond}
 use mathlib.Core.List.{List, []}
 use mathlib.Core.Logic.{_↔_}
 use Prim.Native.Nat.{ℕ, _+_, _-_, _≤_, _<_}
@@ -17,7 +17,7 @@ use Rattle.tables.specs.Tables.{mostKeys, keyAt, Table, smaller, sharedByAll}
 use Rattle.tables.specs.Lengths.{handleCount}
 use Rattle.splits.specs.Splits.{len, handleItem, handleSplit, leftEntry, rightEntry, lengthEntry}
 use Rattle.splits.specs.Splits.{leftStore, rightStore, lengthStore}
-use Rattle.basics.proofs.Bools.{both, differ}
+use Rattle.basics.proofs.Bools.{both, differ, past-test}
 use Rattle.tables.proofs.Rising.{keys-rise}
 use Rattle.tables.proofs.Delimiting.{delimiters-one}
 use Rattle.splits.proofs.Parents.{left-root}
@@ -157,8 +157,7 @@ module _ (c p : ℕ) (s : Bool) where
 
   past : (t : Bool) (n k : ℕ) (rest : NeighbourSaid) → cond t (refused n k) rest ≡ place c p s
       → rest ≡ place c p s
-  past true n k rest e = not-refused e
-  past false n k rest e = e
+  past t n k rest e = past-test t (refused n k) rest not-refused e .1
 
   pub ask-six : (keys handles lefts rights lengths : List ℕ) (seed x : ℕ)
       → neighbourSays keys handles lefts rights lengths seed x ≡ place c p s → p ≤ 6

@@ -31,6 +31,7 @@ pub fn neighbour_ask(
         right: right.len(),
         work: 0,
         lengths: lengths.len(),
+        bytes: 0,
     };
     let short = stores::short_store(have, stores::neighbour_sizes(n));
     if 0 < short {

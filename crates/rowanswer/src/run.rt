@@ -34,7 +34,7 @@ fn refuse_jam(out: &mut [u8], size: usize) -> usize
     write_jam(out, 0, size).or(0)
 }
 
-// The head line and the lines of all asks.
+// The head line and the lines of all asks. No run is withdrawn here: a byte of zero is lent for each row.
 fn print_answers(
     keys: &[u64],
     b: usize,
@@ -48,16 +48,18 @@ fn print_answers(
     out: &mut [u8],
 ) -> usize
     requires { ⌜ Answers (now keys) b (same seed) (asked (now cells) (now handles) (now left) (now right)
-        (now lengths)) ⌝ }
+        (now lengths)) × (length (now keys) ≤ 2048) ⌝ }
     ensures { λ r.
         ⌜ ShownWhereRoom (answered (now (keys .entry)) (now (asks .entry)))
         (now (out .entry)) r (now (out .exit)) ⌝ }
 {
+    let bytes = [0u8; 2048];
     let Next::At(i) = write_head(out, 0, keys.len()) else {
         return 0;
     };
     answer_asks(
         keys,
+        &bytes,
         b,
         seed,
         cells,

@@ -4,13 +4,14 @@ use std::num::wrapping_add_u64;
 use words::hash::mix;
 
 // Each entry i from `from` on and below `end` is to hold base + (mix(i + add) mod (most + 1)), of which a byte takes
-// the lower half.
+// the lower half; but 0 where mix(i + 23) mod (rare + 1) is above 0.
 pub struct Part {
     from: usize,
     end: usize,
     base: u16,
     add: u64,
     most: u16,
+    rare: u16,
 }
 
 pub fn mixed(from: usize, end: usize, add: u64, most: u16) -> Part {
@@ -20,6 +21,7 @@ pub fn mixed(from: usize, end: usize, add: u64, most: u16) -> Part {
         base: 0,
         add: add,
         most: most,
+        rare: 0,
     }
 }
 
@@ -30,6 +32,19 @@ pub fn same(from: usize, end: usize, v: u16) -> Part {
         base: v,
         add: 0,
         most: 0,
+        rare: 0,
+    }
+}
+
+// The row bytes `mixed`, of which about every fourth is not 0.
+pub fn mixed_bytes(n: usize) -> Part {
+    Part {
+        from: 0,
+        end: n,
+        base: 1,
+        add: 29,
+        most: 254,
+        rare: 3,
     }
 }
 
@@ -38,8 +53,15 @@ pub fn none() -> Part {
     same(0, 0, 0)
 }
 
+fn mixed_at(i: usize, add: u64, most: u16) -> u64 {
+    mix(wrapping_add_u64(i as u64, add)) % (most as u64 + 1)
+}
+
 fn entry_at(part: Part, i: usize) -> u16 {
-    let above = mix(wrapping_add_u64(i as u64, part.add)) % (part.most as u64 + 1);
+    if 0 < mixed_at(i, 23, part.rare) {
+        return 0;
+    }
+    let above = mixed_at(i, part.add, part.most);
     (wrapping_add_u64(part.base as u64, above) % 65536) as u16
 }
 

@@ -36,7 +36,8 @@ fn single_bit(i: u64) -> u64 {
     1 << (i - 1)
 }
 
-fn key_at(sample: Sample, i: u64) -> u64 {
+// Key i of the sample.
+pub fn key_at(sample: Sample, i: u64) -> u64 {
     match sample {
         Sample::Sequential => ruled(i, 0x0001_0002_0001_8000, 1, 1, 0, 1),
         Sample::Spread => ruled(i, 0, 1, 0x0002_0000_0000_0000, 0, 0x0002_0000_0000_0000),

@@ -1,6 +1,8 @@
 // The words that the programs print.
 use crate::table::Sample;
 use libc::STDOUT_FILENO;
+use outcomes::Outcome;
+use refusals::Refusal;
 use refusals::Verdict;
 
 pub fn word(w: &[u8]) {
@@ -19,13 +21,17 @@ pub fn hex(tag: &[u8], v: u64) {
     io::print_hex(STDOUT_FILENO, v, 16);
 }
 
+fn refusal(n: u64, named: u64) {
+    number(b"refused=", n);
+    number(b".", named);
+}
+
 fn verdict(v: Verdict) {
     if v.number() == 0 {
         word(b"taken");
         return;
     }
-    number(b"refused=", v.number());
-    number(b".", v.named());
+    refusal(v.number(), v.named());
 }
 
 // A tag, and what a build says, with the size that it reports.
@@ -33,6 +39,22 @@ pub fn said(tag: &[u8], v: Verdict) {
     word(tag);
     verdict(v);
     number(b".", v.jam_size() as u64);
+}
+
+// A tag, and the refusal of an ask.
+pub fn refused(tag: &[u8], r: Refusal) {
+    word(tag);
+    refusal(r.number(), r.named());
+}
+
+// A tag, and an outcome of the call index.
+pub fn outcome(tag: &[u8], o: Outcome) {
+    word(tag);
+    match o {
+        Outcome::Planned(row) => number(b"planned.", row as u64),
+        Outcome::Withdrawn(row) => number(b"withdrawn.", row as u64),
+        Outcome::Absent => word(b"absent"),
+    }
 }
 
 fn name(sample: Sample) {

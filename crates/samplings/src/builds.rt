@@ -11,7 +11,7 @@ use samples::store::mixed;
 use stores::Sizes;
 
 // What the build says, and the digest of what it leaves.
-pub struct Outcome {
+pub struct Trial {
     pub said: Verdict,
     pub digest: u64,
 }
@@ -50,7 +50,7 @@ pub fn tried(
     seed3: u64,
     lend: Sizes,
     before: u64,
-) -> Outcome {
+) -> Trial {
     let mut cells = [0u16; 3798];
     let mut handles = [0u16; 2526];
     let mut left = [0u16; 2000];
@@ -74,7 +74,7 @@ pub fn tried(
     let maps = digest_cells(said, first, lend.handles, &handles);
     let bounds = digest_first(digest_first(maps, lend.left, &left), lend.right, &right);
     let numbers = digest_first(bounds, lend.work, &work);
-    Outcome {
+    Trial {
         said: said,
         digest: digest_bytes(numbers, first_bytes(lend.lengths, &lengths)),
     }

@@ -61,6 +61,7 @@ module _ (keys : List ℕ) (words : Words keys) (few : length keys ≤ 2048) (b 
         right = omega arith;
         work = omega arith;
         lengths = omega arith;
+        bytes = omega arith;
       }
 
   -- by what the build judges: 2, 3, or nothing

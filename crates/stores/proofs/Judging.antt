@@ -8,7 +8,7 @@ use native.Mathlib.Omega.{arith}
 use borrow.Author.Tests.{ltb-false}
 use lib.Dec.{ltb}
 use lib.ListN.{length}
-use Rattle.basics.proofs.Bools.{differ}
+use Rattle.basics.proofs.Bools.{differ, past-test}
 use Rattle.refusals.specs.Numbers.{BuildSaid, taken, refused}
 use Rattle.refusals.proofs.Naming.{test-passed}
 use Rattle.tables.specs.Tables.{mostKeys, firstFall}
@@ -20,8 +20,7 @@ use Rattle.stores.proofs.Chains.{goes-on, refuses}
 
 -- a test that fails, and the rest of the chain
 passed : (t : Bool) (k rest : ℕ) → cond t (suc k) rest ≡ 0 → (t ≡ false) × (rest ≡ 0)
-passed true k rest e = absurd (omega arith)
-passed false k rest e = (refl, e)
+passed t k rest = past-test t (suc k) rest (λ e. omega arith)
 
 module _ (h w : Sizes) where
   pub none-short : shortStore h w ≡ 0 → Fits h w
@@ -33,6 +32,7 @@ module _ (h w : Sizes) where
       let t₄ = passed (ltb (h .right) (w .right)) 3 _ (t₃ .1) in
       let t₅ = passed (ltb (h .work) (w .work)) 4 _ (t₄ .1) in
       let t₆ = passed (ltb (h .lengths) (w .lengths)) 5 _ (t₅ .1) in
+      let t₇ = passed (ltb (h .bytes) (w .bytes)) 6 _ (t₆ .1) in
       record {
         cells = ltb-false _ _ (t₁ .0);
         handles = ltb-false _ _ (t₂ .0);
@@ -40,6 +40,7 @@ module _ (h w : Sizes) where
         right = ltb-false _ _ (t₄ .0);
         work = ltb-false _ _ (t₅ .0);
         lengths = ltb-false _ _ (t₆ .0);
+        bytes = ltb-false _ _ (t₇ .0);
       }
 
   pub all-fit : Fits h w → shortStore h w ≡ 0
@@ -47,7 +48,8 @@ module _ (h w : Sizes) where
   all-fit F =
       goes-on _ (F .cells)
       (goes-on _ (F .handles)
-      (goes-on _ (F .left) (goes-on _ (F .right) (goes-on _ (F .work) (goes-on _ (F .lengths) refl)))))
+      (goes-on _ (F .left)
+      (goes-on _ (F .right) (goes-on _ (F .work) (goes-on _ (F .lengths) (goes-on _ (F .bytes) refl))))))
 
 -- refusals 3 and 4
 module _ (keys : List ℕ) (have want : Sizes) {row short : ℕ} (falls : row ≡ firstFall keys)

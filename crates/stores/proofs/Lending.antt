@@ -6,13 +6,14 @@ use Prim.Native.Nat.{ℕ, _≤_, _<_}
 use borrow.Author.Tests.{ltb-false}
 use lib.Dec.{ltb}
 use lib.ListN.{length}
-use Rattle.basics.proofs.Bools.{differ}
+use Rattle.basics.proofs.Bools.{differ, past-test}
 use Rattle.refusals.specs.Numbers.{BuildSaid}
 use Rattle.refusals.specs.Numbers as built
 use Rattle.refusals.proofs.Naming.{refusal-told}
 use Rattle.tables.specs.Tables.{mostKeys}
 use Rattle.tables.specs.Lengths.{callCells, handleCells, callWork}
-use Rattle.stores.specs.Sizes.{fullSizes, LendSaid, sizes, refused, saidByLend, namedLengths}
+use Rattle.stores.specs.Sizes.{storeSizes, fullSizes, lendSizes}
+use Rattle.stores.specs.Sizes.{LendSaid, sizes, refused, saidByLend, namedLengths}
 use Rattle.stores.specs.Judged.{judged, fallOrShort}
 use Rattle.stores.specs.Determined.{LengthsDetermined}
 use Rattle.stores.specs.declared.Sizes.{Sizes}
@@ -21,8 +22,8 @@ use Rattle.stores.specs.declared.Lend.the-variants as lend
 use Rattle.stores.proofs.Chains.{goes-on, refuses}
 use Rattle.stores.proofs.Judging.{limits-pass}
 
-abbrev pub made : (cells handles left right work lengths : ℕ) → Sizes
-made c h l r w m = record { cells = c; handles = h; left = l; right = r; work = w; lengths = m }
+abbrev pub made : (cells handles left right work lengths bytes : ℕ) → Sizes
+made c h l r w m s = record { cells = c; handles = h; left = l; right = r; work = w; lengths = m; bytes = s }
 
 module _ (n b : ℕ) where
   pub too-many-keys : mostKeys < n → refused 1 0 ≡ namedLengths n b
@@ -38,39 +39,35 @@ module _ (n b : ℕ) where
     unfolding namedLengths
     bucket-too-large two h = sym (goes-on _ few (goes-on _ two (refuses _ _ h)))
 
-    pub lengths-are : 2 ≤ b → b ≤ 256 → {w : Sizes} → w ≡ fullSizes n b → sizes w ≡ namedLengths n b
+    pub lengths-are : 2 ≤ b → b ≤ 256 → {w : Sizes} → w ≡ lendSizes n b → sizes w ≡ namedLengths n b
     unfolding namedLengths
     lengths-are two most e = ap sizes e ∙ sym (goes-on _ few (goes-on _ two (goes-on _ most refl)))
 
 -- the lengths, each for itself
-pub full-sized : (n b : ℕ) {c h k : ℕ} → c ≡ callCells n b → h ≡ handleCells n → k ≡ callWork n
-    → made c h n n k n ≡ fullSizes n b
-full-sized n b p q r = rw (p, q, r)
+pub stores-sized : (n b bytes : ℕ) {c h k : ℕ} → c ≡ callCells n b → h ≡ handleCells n → k ≡ callWork n
+    → made c h n n k n bytes ≡ storeSizes n b bytes
+stores-sized n b bytes p q r = rw (p, q, r)
 
 -- where lengths are answered, 1 and 2 do not apply
-pub record Named (n b : ℕ) (w : Sizes) : Type 0 where
+pub record Named (n b : ℕ) : Type 0 where
   pub few : n ≤ mostKeys
   pub two : 2 ≤ b
   pub most : b ≤ 256
-  pub is : w ≡ fullSizes n b
 
-not-refused : (t : Bool) (k i : ℕ) {w : Sizes} {rest : LendSaid} → sizes w ≡ cond t (refused k i) rest
-    → (t ≡ false) × (sizes w ≡ rest)
-not-refused true k i e = differ (cc)
-not-refused false k i e = (refl, e)
+not-refused : (t : Bool) (k i : ℕ) (rest : LendSaid) (w : Sizes) → cond t (refused k i) rest ≡ sizes w
+    → (t ≡ false) × (rest ≡ sizes w)
+not-refused t k i rest w = past-test t (refused k i) rest (λ e. differ (cc))
 
-pub named-by : (n b : ℕ) (w : Sizes) → sizes w ≡ namedLengths n b → Named n b w
+pub named-by : (n b : ℕ) (w : Sizes) → sizes w ≡ namedLengths n b → Named n b
 unfolding namedLengths
 named-by n b w e =
-    let t₁ = not-refused (ltb mostKeys n) 1 0 e in
-    let t₂ = not-refused (ltb b 2) 2 0 (t₁ .1) in
-    let t₃ = not-refused (ltb 256 b) 2 0 (t₂ .1) in
-    let same : sizes w ≡ sizes (fullSizes n b) = t₃ .1 in
+    let t₁ = not-refused (ltb mostKeys n) 1 0 _ w (sym e) in
+    let t₂ = not-refused (ltb b 2) 2 0 _ w (t₁ .1) in
+    let t₃ = not-refused (ltb 256 b) 2 0 _ w (t₂ .1) in
     record {
       few = ltb-false mostKeys n (t₁ .0);
       two = ltb-false b 2 (t₂ .0);
       most = ltb-false 256 b (t₃ .0);
-      is = cc;
     }
 
 -- and where a refusal is answered, it is the build's
@@ -91,15 +88,16 @@ pub refused-by : (keys : List ℕ) (b k i : ℕ) (have want : Sizes) → refused
 unfolding namedLengths judged
 refused-by keys b k i have want e =
     let rest = fallOrShort keys have want in
-    same-tests (ltb mostKeys (length keys)) (ltb b 2) (ltb 256 b) rest (fullSizes (length keys) b)
+    same-tests (ltb mostKeys (length keys)) (ltb b 2) (ltb 256 b) rest (lendSizes (length keys) b)
     ∙ ap (asBuild rest) (sym e)
 
 -- otherwise 3 and 4 decide
-pub judged-by : (keys : List ℕ) (b : ℕ) (have : Sizes) {w : Sizes} {said : BuildSaid} → Named (length keys) b w
-    → said ≡ fallOrShort keys have w → judged keys b have (fullSizes (length keys) b) ≡ said
-judged-by keys b have N e =
+pub judged-by : (keys : List ℕ) (b : ℕ) (have : Sizes) {w : Sizes} {said : BuildSaid} → Named (length keys) b
+    → w ≡ fullSizes (length keys) b → said ≡ fallOrShort keys have w
+    → judged keys b have (fullSizes (length keys) b) ≡ said
+judged-by keys b have N is e =
     limits-pass keys b have (fullSizes (length keys) b) (N .few) (N .two) (N .most)
-    ∙ ap (fallOrShort keys have) (sym (N .is)) ∙ sym e
+    ∙ ap (fallOrShort keys have) (sym is) ∙ sym e
 
 -- the answer is told by what it says
 lend-told : (r r′ : Lend) → saidByLend r ≡ saidByLend r′ → r ≡ r′

@@ -6,7 +6,7 @@ use lib.ListN.{length}
 use Rattle.cells.specs.Memory.{cleared}
 use Rattle.stores.specs.declared.Sizes.{Sizes}
 
--- stores 1 to 6; the lengths are bytes
+-- stores 1 to 6; the lengths are bytes. The row bytes, store 7, stand beside the table
 pub record Stores : Type 0 where
   pub cells : List ℕ
   pub handles : List ℕ
@@ -35,16 +35,21 @@ seeds s t u = record { one = s; two = t; three = u }
 abbrev pub same : ℕ → Seeds
 same s = seeds s s s
 
--- how long they are
-abbrev pub sizesOf : Stores → Sizes
-sizesOf S = record {
+-- how long they are, with the row bytes beside the table
+abbrev pub sizesBeside : Stores → (bytes : List ℕ) → Sizes
+sizesBeside S bytes = record {
   cells = length (S .cells);
   handles = length (S .handles);
   left = length (S .left);
   right = length (S .right);
   work = length (S .work);
   lengths = length (S .lengths);
+  bytes = length bytes;
 }
+
+-- a build, and the neighbour ask, are lent none
+abbrev pub sizesOf : Stores → Sizes
+sizesOf S = sizesBeside S []
 
 -- all of them 0 over the lengths w, and beyond as they were
 abbrev pub clearedStores : Sizes → Stores → Stores

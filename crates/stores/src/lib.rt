@@ -5,8 +5,8 @@
 // are handed; the others ask for sizes that their callers have tested.
 ghost use mathlib.Core.Path.{_≡_};
 ghost use Prim.Native.Nat.{_≤_};
-ghost use Rattle.stores.specs.Sizes.{shortStore, fullSizes, callSizes, neighbourSizes, saidByLend, namedLengths};
-ghost use Rattle.stores.specs.Sizes.{Fits};
+ghost use Rattle.stores.specs.Sizes.{shortStore, storeSizes, fullSizes, callSizes, neighbourSizes, Fits};
+ghost use Rattle.stores.specs.Sizes.{saidByLend, namedLengths};
 ghost use Rattle.stores.specs.Stores.{lent, sizesOf, clearedStores};
 ghost use Rattle.stores.specs.Judged.{fallOrShort, saidByJudge};
 use cells::clear;
@@ -26,6 +26,7 @@ pub struct Sizes {
     pub right: usize,
     pub work: usize,
     pub lengths: usize,
+    pub bytes: usize,
 }
 
 // What a caller has to lend, or the refusal that the build would give whatever is lent.
@@ -62,13 +63,16 @@ pub fn short_store(have: Sizes, want: Sizes) -> u8
     if have.lengths < want.lengths {
         return 6;
     }
+    if have.bytes < want.bytes {
+        return 7;
+    }
     0
 }
 
-// The named lengths of the full build of n keys in buckets of b rows.
-pub fn full_sizes(n: usize, b: usize) -> Sizes
+// The lengths of the stores of n keys in buckets of b rows, beside so many row bytes.
+fn store_sizes(n: usize, b: usize, bytes: usize) -> Sizes
     requires { ⌜ (1 ≤ b) × (b ≤ 256) × (n ≤ 32768) ⌝ }
-    ensures { λ r. ⌜ r ≡ fullSizes n b ⌝ }
+    ensures { λ r. ⌜ r ≡ storeSizes n b bytes ⌝ }
 {
     Sizes {
         cells: call_cells(n, b),
@@ -77,7 +81,16 @@ pub fn full_sizes(n: usize, b: usize) -> Sizes
         right: n,
         work: call_work(n),
         lengths: n,
+        bytes,
     }
+}
+
+// The named lengths of the full build of n keys in buckets of b rows, which is lent no row bytes.
+pub fn full_sizes(n: usize, b: usize) -> Sizes
+    requires { ⌜ (1 ≤ b) × (b ≤ 256) × (n ≤ 32768) ⌝ }
+    ensures { λ r. ⌜ r ≡ fullSizes n b ⌝ }
+{
+    store_sizes(n, b, 0)
 }
 
 // What a call ask reads.
@@ -92,6 +105,7 @@ pub fn call_sizes(n: usize, b: usize) -> Sizes
         right: 0,
         work: 0,
         lengths: 0,
+        bytes: n,
     }
 }
 
@@ -107,11 +121,12 @@ pub fn neighbour_sizes(n: usize) -> Sizes
         right: n,
         work: 0,
         lengths: n,
+        bytes: 0,
     }
 }
 
-// The named length of every store for n keys in buckets of b rows: refusal 1 for more than 32,768 keys, then 2 for a
-// b outside 2 to 256.
+// The named length of every store that the build or an ask is lent, for n keys in buckets of b rows: refusal 1 for more
+// than 32,768 keys, then 2 for a b outside 2 to 256.
 pub fn named_lengths(n: usize, b: usize) -> Lend
     ensures { λ r. ⌜ saidByLend r ≡ namedLengths n b ⌝ }
 {
@@ -122,7 +137,7 @@ pub fn named_lengths(n: usize, b: usize) -> Lend
         return Lend::Refused(Refusal::BucketSize);
     }
     if b <= 256 {
-        return Lend::Sizes(full_sizes(n, b));
+        return Lend::Sizes(store_sizes(n, b, n));
     }
     Lend::Refused(Refusal::BucketSize)
 }

@@ -1,6 +1,6 @@
 -- The laws of buckets: all keys of a bucket share the bits that its first and its last share, and no two buckets have
 -- the same prefix. Assumes nothing.
-use mathlib.Core.Path.{_≡_, refl, sym, ap}
+use mathlib.Core.Path.{_≡_, sym, ap}
 use mathlib.Core.Bool.{Bool, true, false, cond}
 use mathlib.Core.List.{List, [], _∷_}
 use mathlib.Core.Logic.{_⊎_, ⊎-elim}
@@ -12,7 +12,7 @@ use lib.Dec.{ltb}
 use lib.ListN.{length, take, drop}
 use lib.Seq.{slice, slice-cons, slice-empty, length-slice, take-nil}
 use lib.Pow.{shr-mono}
-use Rattle.basics.proofs.Bools.{differ}
+use Rattle.basics.proofs.Bools.{differ, past-test}
 use Rattle.words.specs.Keys.{sharedBits, prefixItem}
 use Rattle.words.proofs.Sharing.{halve, shared-le, shared-iff, shared-lt, shared-min, parting}
 use Rattle.words.proofs.Items.{item-inj}
@@ -163,8 +163,7 @@ module _ (T : List ℕ) (t : Table T) where
 
 -- a test that comes out true let the ones before it fail
 passed : (t u : Bool) → cond t false u ≡ true → (t ≡ false) × (u ≡ true)
-passed true u e = differ (cc)
-passed false u e = (refl, e)
+passed t u = past-test t false u (λ e. differ (cc))
 
 -- what is known where there is a bucket i
 pub has-bucket-limits : (n b i : ℕ) → hasBucket n b i ≡ true

@@ -2,7 +2,7 @@
 -- and `at` is the place after them. The measure is how many asks are left. Assumes nothing.
 use native.Mathlib.Omega.{arith}
 use borrow.Author.Needs.{needs}
-use Prim.Native.Nat.{ℕ, _≤_, _-_}
+use Prim.Native.Nat.{ℕ, _-_, _^_, _≤_, _<_}
 use mathlib.Core.List.{List}
 use mathlib.Core.Path.{_∙_}
 use lib.ListN.{length, take}
@@ -17,28 +17,28 @@ use Rattle.asks.proofs.answer_asks.Statement.{statement}
 use Rattle.asks.proofs.answer_asks.Tie as tie
 
 abbrev Inv-loop : tie.InvT-loop
-Inv-loop keys b seed cells handles left right lengths asks out₀ i k₀ at₀ out k at =
+Inv-loop keys bytes b seed cells handles left right lengths asks out₀ i k₀ at₀ out k at =
     Writes (texts (askLines keys) (take k asks)) out₀ i out (At at) × (k ≤ length asks)
 
 abbrev μ-loop : tie.MeasureT-loop
-μ-loop keys b seed cells handles left right lengths asks out₀ i k₀ at₀ out k at = length asks - k
+μ-loop keys bytes b seed cells handles left right lengths asks out₀ i k₀ at₀ out k at = length asks - k
 
 -- where the function began
 abbrev start : tie.At-loop Inv-loop μ-loop → tie.Start Inv-loop μ-loop
-start p = p .before .before .before .before .before .before .before .before .before .before
+start p = p .before .before .before .before .before .before .before .before .before .before .before
 
 -- the bytes after the lines of one ask
 abbrev after : tie.After-answer-ask Inv-loop μ-loop → List ℕ
-after w = w .answer-ask .last .1 .1 .1 .1 .1 .1 .1 .1 .1 .0
+after w = w .answer-ask .last .1 .1 .1 .1 .1 .1 .1 .1 .1 .1 .0
 
 returns : tie.Need-returns Inv-loop μ-loop
 returns c =
-    let a = c .before .before .before .before .before .before .before .before .before .args in
+    let a = c .before .before .before .before .before .before .before .before .before .before .args in
     prints-off (texts (askLines (a .keys .now)) (a .asks .now)) (a .out .now) (a .out .now) (a .i) (omega arith)
 
 loop-holds : tie.Need-loop-holds Inv-loop μ-loop
 loop-holds c =
-    let a = c .before .before .before .before .before .before .before .before .before .args in
+    let a = c .before .before .before .before .before .before .before .before .before .before .args in
     (put-start (askLines (a .keys .now)) (a .asks .now) (a .out .now) (a .i) (omega arith), omega arith)
 
 answer-ask-requires : tie.Need-answer-ask-requires Inv-loop μ-loop
@@ -50,7 +50,7 @@ same-length c =
     let p = w .before .before .before .before in
     let a = start p .args in
     let l = p .loop in
-    w .answer-ask .kept .1 .1 .1 .1 .1 .1 .1 .1 .1 .0
+    w .answer-ask .kept .1 .1 .1 .1 .1 .1 .1 .1 .1 .1 .0
     ∙ writes-length (texts (askLines (a .keys .now)) (take (l .k) (a .asks .now))) (a .out .now) (l .out) (a .i)
     (At (l .at)) (l .inv .0)
 
@@ -62,6 +62,13 @@ returns-2 c =
     let l = p .loop in
     next-off (askLines (a .keys .now)) (a .asks .now) (a .out .now) (a .i) (l .k) (l .at) (l .out) (omega arith)
     (l .inv .0) (after w) (rw (c .enum-told .given .1) at (w .answer-ask .ensures))
+
+-- no slice has so many asks
+few : (l : tie.In-loop Inv-loop μ-loop) → l .before .loop .k < 2 ^ 63
+few l = search needs
+
+add-k : tie.Need-add-k Inv-loop μ-loop
+add-k c = omega (arith, few (c .before .before .before .before .before .before .before .before))
 
 loop-again : tie.Need-loop-again Inv-loop μ-loop
 loop-again c =
@@ -93,5 +100,5 @@ pub answer-asks-spec : {M : Type 1} → statement M
 answer-asks-spec =
     tie.close
     (tie.spec Inv-loop μ-loop returns loop-holds (λ c. search needs) (λ c. search needs) answer-ask-requires
-    (λ c. search needs) (λ c. search needs) same-length returns-2 (λ c. search needs) (λ c. search needs)
+    (λ c. search needs) (λ c. search needs) same-length returns-2 add-k (λ c. search needs)
     loop-again same-length-2 returns-3)

@@ -6,13 +6,12 @@ use Rattle.bench.proofs.index_call_ask.Statement.{statement}
 use Rattle.bench.proofs.index_call_ask.Tie as tie
 
 returns : tie.Need-returns
-returns c = ap callCode (rw (c .before .a .given .1) at (c .before .before .before .call-ask .ensures))
+returns c =
+    let said = c .before .before .before .before .call-ask .ensures in
+    c .outcome .ensures ∙ ap callCode (rw (c .before .before .a .given .1) at said)
 
 returns-2 : tie.Need-returns-2
-returns-2 c = ap callCode (rw (c .enum-told .given .1) at (c .before .before .call-ask .ensures))
-
-returns-3 : tie.Need-returns-3
-returns-3 c =
+returns-2 c =
     let said = c .before .before .before .before .call-ask .ensures in
     c .refused .ensures ∙ ap callCode (rw (c .before .before .a2 .given .1) at said)
 
@@ -22,9 +21,8 @@ index-call-ask-spec =
     (tie.spec
     (λ c κs. tt)
     (λ c. search needs)
-    (λ c. search needs)
+    (λ c κs. tt)
     (λ c. search needs)
     (λ c κs. tt)
     returns
-    returns-2
-    returns-3)
+    returns-2)

@@ -1,6 +1,7 @@
 -- `full::full_build` meets its contract: refusals 1 to 4 in their order change nothing, then both indexes are built.
 -- Assumes nothing.
 use mathlib.Core.Path.{_≡_, refl, sym, ap, _∙_}
+use native.Mathlib.Omega.{arith}
 use borrow.Author.Needs.{needs}
 use lib.ListN.{length}
 use Rattle.refusals.specs.Numbers.{taken}
@@ -21,6 +22,14 @@ keys-known l = l .before .before .before .before .before .before .before
 abbrev start : tie.After-named-lengths → tie.Start
 start l = keys-known l .before
 
+-- where they were, refusals 1 and 2 do not apply
+named : (t : tie.After-enum-told) → let s = start (t .before .before) in
+    Named (length (s .args .keys .now)) (s .args .b)
+named t = named-by _ _ _ (sym (ap saidByLend (t .enum-told .given .1)) ∙ t .before .before .named-lengths .ensures)
+
+full-sizes-requires : tie.Need-full-sizes-requires
+full-sizes-requires c κs = let N = named c in (omega (arith, N .two), N .most, N .few)
+
 -- the stores as they were lent
 abbrev stores : tie.Start → Stores
 stores s =
@@ -31,9 +40,11 @@ stores s =
 abbrev told : tie.After-judge → tie.After-named-lengths
 told j = j .before .before .before .before
 
-named : (j : tie.After-judge) → let s = start (told j) in
-    Named (length (s .args .keys .now)) (s .args .b) (j .before .before .want .given .0 .0)
-named j = named-by _ _ _ (sym (ap saidByLend (j .before .before .want .given .1)) ∙ told j .named-lengths .ensures)
+judged : (j : tie.After-judge) → let s = start (told j) in
+    fullJudged (s .args .keys .now) (s .args .b) (stores s) ≡ saidByJudge (j .judge .result)
+judged j =
+    judged-by _ _ (sizesOf (stores (start (told j)))) (named (j .before .before)) (j .before .full-sizes .ensures)
+    (j .judge .ensures)
 
 returns : tie.Need-returns
 returns c =
@@ -46,12 +57,7 @@ returns c =
 
 returns-2 : tie.Need-returns-2
 returns-2 c =
-    let j = c .before .before .before in
-    let s = start (told j) in
-    refusal _ _
-    (judged-by (s .args .keys .now) (s .args .b) (sizesOf (stores s)) (named j)
-    (sym (ap saidByJudge (c .before .refusal2 .given .1)) ∙ j .judge .ensures))
-    refl refl
+    refusal _ _ (judged (c .before .before .before) ∙ ap saidByJudge (c .before .refusal2 .given .1)) refl refl
 
 build-all-requires : tie.Need-build-all-requires
 build-all-requires c κs =
@@ -60,8 +66,7 @@ build-all-requires c κs =
     let s = start (told j) in
     let keys = s .args .keys .now in
     let b = s .args .b in
-    let passed : fullJudged keys b (stores s) ≡ taken = judged-by keys b (sizesOf (stores s)) (named j)
-    (sym (ap saidByJudge (t .enum-told .given .1)) ∙ j .judge .ensures) in
+    let passed : fullJudged keys b (stores s) ≡ taken = judged j ∙ ap saidByJudge (t .enum-told2 .given .1) in
     record {
       judged = passed;
       table = no-fall-table keys (λ i l. keys-known (told j) .shared-slice-known .given i .fits)
@@ -75,6 +80,7 @@ full-build-spec =
     (λ c κs. search needs)
     (λ c. search needs)
     (λ c. search needs)
+    full-sizes-requires
     (λ c κs. search needs)
     (λ c. search needs)
     (λ c. search needs)

@@ -1,15 +1,7 @@
--- `stores::full_sizes` meets its contract: what the calls ensure, put together. Assumes nothing.
+-- `stores::full_sizes` meets its contract: what the call ensures. Assumes nothing.
 use borrow.Author.Needs.{needs}
-use Rattle.stores.proofs.Lending.{full-sized}
 use Rattle.stores.proofs.full_sizes.Statement.{statement}
 use Rattle.stores.proofs.full_sizes.Tie as tie
 
-returns : tie.Need-returns
-returns c =
-    let k = c .before .before in
-    let a = k .before .args in
-    full-sized (a .n) (a .b) (k .call-cells .ensures) (c .before .handle-cells .ensures) (c .call-work .ensures)
-
 pub full-sizes-spec : {M : Type 1} → statement M
-full-sizes-spec =
-    tie.close (tie.spec (λ c κs. search needs) (λ c κs. search needs) (λ c κs. search needs) returns)
+full-sizes-spec = tie.close (tie.spec (λ c κs. search needs) (λ c. c .store-sizes .ensures))

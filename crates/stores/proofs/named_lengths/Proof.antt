@@ -13,7 +13,7 @@ returns-2 c = bucket-too-small _ _ (c .before .if1 .left) (c .if2 .taken)
 returns-3 : tie.Need-returns-3
 returns-3 c =
     let e = c .before in
-    lengths-are _ _ (e .before .before .if1 .left) (e .before .if2 .left) (e .if3 .taken) (c .full-sizes .ensures)
+    lengths-are _ _ (e .before .before .if1 .left) (e .before .if2 .left) (e .if3 .taken) (c .store-sizes .ensures)
 
 returns-4 : tie.Need-returns-4
 returns-4 c = bucket-too-large _ _ (c .before .before .if1 .left) (c .before .if2 .left) (c .if3 .left)

@@ -52,14 +52,30 @@ returns-6 c =
 returns-7 : tie.Need-returns-7
 unfolding shortStore
 returns-7 c =
-    let five = c .before .before .before in
+    let six = c .before .before .before in
+    let five = six .before .before .before in
     let four = five .before .before .before in
     let three = four .before .before .before in
     let two = three .before .before .before in
     sym (goes-on _ (two .before .before .before .if1 .left)
     (goes-on _ (two .if2 .left)
     (goes-on _ (three .if3 .left)
-    (goes-on _ (four .if4 .left) (goes-on _ (five .if5 .left) (goes-on _ (c .if6 .left) refl))))))
+    (goes-on _ (four .if4 .left)
+    (goes-on _ (five .if5 .left) (goes-on _ (six .if6 .left) (refuses _ _ (c .if7 .taken))))))))
+
+returns-8 : tie.Need-returns-8
+unfolding shortStore
+returns-8 c =
+    let six = c .before .before .before in
+    let five = six .before .before .before in
+    let four = five .before .before .before in
+    let three = four .before .before .before in
+    let two = three .before .before .before in
+    sym (goes-on _ (two .before .before .before .if1 .left)
+    (goes-on _ (two .if2 .left)
+    (goes-on _ (three .if3 .left)
+    (goes-on _ (four .if4 .left)
+    (goes-on _ (five .if5 .left) (goes-on _ (six .if6 .left) (goes-on _ (c .if7 .left) refl)))))))
 
 pub short-store-spec : {M : Type 1} → statement M
-short-store-spec = tie.close (tie.spec returns returns-2 returns-3 returns-4 returns-5 returns-6 returns-7)
+short-store-spec = tie.close (tie.spec returns returns-2 returns-3 returns-4 returns-5 returns-6 returns-7 returns-8)

@@ -14,7 +14,10 @@ print-answers-requires : tie.Need-print-answers-requires
 unfolding Chose
 print-answers-requires c κs =
     let q = c .before .before .before .before .before .before .before .before .before .before .before .before in
-    (rw (q .seed .given .1) at (q .before .before .first-seed .ensures)) .2 .answers
+    let f = q .before .before in (
+      (rw (q .seed .given .1) at (f .first-seed .ensures)) .2 .answers,
+      f .before .before .before .before .before .before .before .before .before .before .pre,
+    )
 
 returns : tie.Need-returns
 unfolding Chose

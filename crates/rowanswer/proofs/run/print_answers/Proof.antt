@@ -14,11 +14,11 @@ returns c =
 returns-2 : tie.Need-returns-2
 returns-2 c =
     let a = c .before .before .before in
-    let i = a .before .before .before in
+    let i = a .before .before .before .before in
     let w = i .before .before .before .before in
     let s = w .before .before .before .before .before .before .before .before .before .before in
     answers-shown (s .args .keys .now) (s .args .asks .now) (s .args .out .now) (w .write-head .last .0)
-    (a .answer-asks .last .1 .1 .1 .1 .1 .1 .1 .1 .1 .0) _
+    (a .answer-asks .last .1 .1 .1 .1 .1 .1 .1 .1 .1 .1 .0) _
     (rw (i .i .given .1) at (w .write-head .ensures)) (a .answer-asks .result) (c .or .result)
     (a .answer-asks .ensures) (c .or .ensures)
 
@@ -26,4 +26,4 @@ pub print-answers-spec : {M : Type 1} → statement M
 print-answers-spec =
     tie.close
     (tie.spec (λ c κs. search needs) (λ c. search needs) (λ c. search needs) (λ c. search needs) returns
-    (λ c κs. search needs) (λ c κs. search needs) (λ c. search needs) returns-2)
+    (λ c. search needs) (λ c κs. search needs) (λ c κs. search needs) (λ c. search needs) returns-2)

@@ -1,4 +1,4 @@
--- `callask::by_rule` meets its contract: the rule from what the look-ups find; the second looks at the part from cell
+-- `callask::row_of` meets its contract: the rule from what the look-ups find; the second looks at the part from cell
 -- C(n) on. Assumes nothing.
 use mathlib.Core.Path.{_≡_, ap, _∙_}
 use native.Mathlib.Omega.{arith}
@@ -7,10 +7,10 @@ use Prim.Native.Nat.{ℕ, _+_, _-_, _*_, _/_, _%_, _≤_}
 use lib.ListN.{length, take, drop, length-drop}
 use lib.Seq.{take-all}
 use Rattle.cells.specs.Cells.{cellCount}
-use Rattle.callask.specs.Ask.{rowSays}
+use Rattle.outcomes.specs.Outcomes.{rowSays}
 use Rattle.callask.proofs.Asking.{row-fits, rule-long, rule-row}
-use Rattle.callask.proofs.by_rule.Statement.{statement}
-use Rattle.callask.proofs.by_rule.Tie as tie
+use Rattle.callask.proofs.row_of.Statement.{statement}
+use Rattle.callask.proofs.row_of.Tie as tie
 
 returns : tie.Need-returns
 returns c =
@@ -57,8 +57,8 @@ returns-2 c =
     (p .prefix-item .result) bucket (take (length cells - from) (drop from cells)) short middle
     (p .before .before .bucket-count .ensures .0) (p .prefix-item .ensures) part (l .look-up2 .ensures)
 
-pub by-rule-spec : {M : Type 1} → statement M
-by-rule-spec =
+pub row-of-spec : {M : Type 1} → statement M
+row-of-spec =
     tie.close
     (tie.spec (λ c κs. search needs) returns (λ c κs. search needs) (λ c κs. search needs) (λ c. search needs)
     (λ c κs. search needs) (λ c. search needs) (λ c. search needs) (λ c. search needs) (λ c. search needs)

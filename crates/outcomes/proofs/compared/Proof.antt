@@ -1,8 +1,8 @@
--- `callask::compared` meets its contract: the tests of the definition, in its order. Assumes nothing.
+-- `outcomes::compared` meets its contract: the tests of the definition, in its order. Assumes nothing.
 use borrow.Author.Needs.{needs}
 use borrow.Author.Tests.{lt-ltb, le-ltb, eq-eqb, ne-eqb}
-use Rattle.callask.proofs.compared.Statement.{statement}
-use Rattle.callask.proofs.compared.Tie as tie
+use Rattle.outcomes.proofs.compared.Statement.{statement}
+use Rattle.outcomes.proofs.compared.Tie as tie
 
 returns : tie.Need-returns
 returns c = search (needs, lt-ltb, le-ltb, eq-eqb)
