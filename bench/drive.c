@@ -3,12 +3,20 @@
 //
 //   drive TABLE N B WORK TIMES SEED1 SEED2 SEED3
 //   TABLE  t: calls of a timetable; r: random 64-bit keys
-//   WORK   s: find seeds that the build takes, and digest stores and answers (for comparing two programs)
+//   WORK   s: find seeds that the builds take, and digest stores and answers (for comparing two programs)
 //          f: TIMES full builds
 //          H, M, R: one full build, then TIMES call asks of hits, near misses, random keys; no row is withdrawn
 //          h, m, r: one full build, then TIMES neighbour asks of them
-// TIMES is at most 32,768.
+//          g: TIMES slim builds
+//          1, 2, 3: one slim build, then TIMES slim asks of hits, near misses, random keys; no row is withdrawn
+// TIMES is at most 32,768. A library may lack the full entries or the slim ones; s then leaves them out.
 #include "entries.h"
+
+#pragma weak index_full_build
+#pragma weak index_call_ask
+#pragma weak index_neighbour_ask
+#pragma weak index_slim_build
+#pragma weak index_slim_ask
 
 #define MOST 32768
 #define CELLS 41295
@@ -16,6 +24,7 @@
 #define STORES 6
 
 static u64 keys[MOST], asks[MOST], seeds[4]; // the seed of map m at m
+static int slim;                             // whether the slim profile is built and asked, in the same stores
 static u16 cells[2 * CELLS + BEYOND], handles[CELLS + BEYOND], left[MOST + BEYOND], right[MOST + BEYOND], work[2 * CELLS + 2 * MOST + BEYOND];
 static u8 lengths[MOST + BEYOND];
 static u8 bytes[MOST + BEYOND]; // of the rows, all 0 until compare() withdraws some
@@ -114,16 +123,25 @@ static void note(u64 v) { digest = (digest ^ v) * 0xBF58476D1CE4E5B9 + 1, digest
 
 static size_t cell_count(size_t t) { return 3 * (42 * t / 100 + 3); }
 static void lend(size_t n, u64 b) {
-    size_t sizes[STORES] = {cell_count(n) + cell_count((n + b - 1) / b), cell_count(n < 2 ? 0 : n - 2), n, n, 2 * cell_count(n) + 2 * n, n};
+    size_t buckets = (n + b - 1) / b, k = slim ? buckets : n;
+    size_t sizes[STORES] = {cell_count(n) + (slim ? 0 : cell_count(buckets)), cell_count(k < 2 ? 0 : k - 2), k, k, 2 * cell_count(n) + 2 * n, k};
     for (int i = 0; i < STORES; i++) named[i] = sizes[i], lent[i] = sizes[i] + BEYOND;
 }
 static u64 build(size_t n, u64 b) {
+    if (slim)
+        return index_slim_build(keys, n, b, seeds[1], seeds[3], cells, lent[0], handles, lent[1], left, lent[2], right, lent[3], work, lent[4],
+                                lengths, lent[5]);
     return index_full_build(keys, n, b, seeds[1], seeds[2], seeds[3], cells, lent[0], handles, lent[1], left, lent[2], right, lent[3], work, lent[4],
                             lengths, lent[5]);
 }
 static u64 call_ask(size_t n, u64 b, u64 x) { return index_call_ask(keys, n, bytes, n, b, seeds[1], seeds[2], cells, lent[0], x); }
 static u64 near_ask(size_t n, u64 x) {
     return index_neighbour_ask(keys, n, seeds[3], handles, lent[1], left, lent[2], right, lent[3], lengths, lent[5], x);
+}
+
+static u64 slim_ask(size_t n, u64 b, u64 x) {
+    return index_slim_ask(keys, n, bytes, n, b, seeds[1], seeds[3], cells, lent[0], handles, lent[1], left, lent[2], right, lent[3], lengths,
+                          lent[5], x);
 }
 
 // A build over stores that hold random numbers: what it says, and what it leaves there and beyond. Which filling of the cells is written would
@@ -146,8 +164,10 @@ static void refusals(size_t n, u64 b) {
     for (int i = 0; i < STORES; i++) lent[i]--, tried(n, b), lent[i]++;
     for (int i = 0; i < STORES; i++) lent[i] = 0;
     tried(n, b);
+    u64 kept = keys[n / 2];
     if (n > 1) keys[n / 2] = keys[n / 2 - 1];
     tried(n, b), tried(n, 1), tried(n, 257), tried(MOST + 1, 1);
+    keys[n / 2] = kept;
 }
 
 // All that two programs have to agree on: what builds say and leave, for seeds that jam too; the answers; those of the call index with some rows
@@ -211,17 +231,65 @@ static void compare(size_t n, u64 b, size_t times) {
     refusals(n, b);
 }
 
+// The same of the slim profile. Its offsets are damaged by small numbers, and by large ones.
+static void compare_slim(size_t n, u64 b, size_t times) {
+    u64 found = 0, withdrawn = 0, probes = 0, said;
+    slim = 1;
+    lend(0, b), tried(0, b), lend(n, b);
+    for (u64 seed = 0; n <= 500 && seed < 64; seed++) {
+        seeds[1] = seeds[3] = seed;
+        tried(n, b);
+    }
+    seeds[1] = 0, seeds[3] = 1;
+    while ((said = tried(n, b)) && seeds[said & 3] < 100) seeds[said & 3]++;
+    print("slim1=", seeds[1]), print("slim3=", seeds[3]);
+    for (int k = 0; k < 12; k++) {
+        // Over true stores with all rows planned and with some withdrawn; then over false lengths, and over more and more damage.
+        for (size_t i = 0; i < MOST + BEYOND; i++) bytes[i] = k < 3 || random() % 4 ? 0 : (random() & 255) >> random() % 8;
+        for (size_t i = 0; k > 5 && i < named[2]; i++)
+            if (k > 7 || i != left[0]) lengths[i] ^= random() & random() & random() & random() & 63;
+        for (size_t i = 0; k > 8 && i < CELLS; i++) {
+            cells[i] ^= k == 9 ? random() & random() & 3 : random() & random() & random();
+            if (k == 9) continue;
+            handles[i] ^= random() & random() & random();
+            if (k == 11 && i < named[2]) left[i] ^= random() >> 63 << random() % 16, right[i] ^= random() >> 63;
+        }
+        choose(n, k % 3);
+        for (size_t i = 0; i < times; i++) {
+            u64 a = slim_ask(n, b, asks[i]);
+            note(a);
+            if (k < 3) found += !(a & BESIDE_ABSENT), probes += a >> 32 & 255;
+            else if (k < 6) withdrawn += !(a >> 63) && a >> 41 & 1;
+        }
+    }
+    print("slim-found=", found), print("slim-probes=", probes), print("slim-withdrawn=", withdrawn);
+    u8 *root = &lengths[left[0] < named[5] ? left[0] : 0], length = *root;
+    *root = 64, note(slim_ask(n, b, asks[0])), *root = length;
+    // Each store of the ask one entry short, all of them, and 1 and 2 before 4.
+    size_t have[7] = {named[0], named[1], named[2], named[3], 0, named[5], n};
+    for (int i = 0; i < 9; i++) {
+        size_t h[7];
+        for (int j = 0; j < 7; j++) h[j] = have[j] - (have[j] > 0 && (j == i || i == 8));
+        for (int j = 0; j < 4; j++)
+            note(index_slim_ask(keys, j == 3 ? MOST + 1 : n, bytes, h[6], j ? (j == 1 ? 1 : 257) : b, seeds[1], seeds[3], cells, h[0], handles, h[1],
+                                left, h[2], right, h[3], lengths, h[5], asks[i]));
+    }
+    refusals(n, b);
+}
+
 __attribute__((used)) static void start(char **argv) {
     size_t n = number(argv[2]), b = number(argv[3]), times = number(argv[5]);
     char what = argv[4][0];
     for (int m = 1; m < 4; m++) seeds[m] = number(argv[5 + m]);
     if (argv[1][0] == 't') timetable(n); else spread(n);
+    slim = what == 'g' || (what >= '1' && what <= '3');
     lend(n, b);
     switch (what) {
     case 's':
-        compare(n, b, times);
+        if (index_full_build) compare(n, b, times);
+        if (index_slim_build) compare_slim(n, b, times);
         break;
-    case 'f':
+    case 'f': case 'g':
         for (size_t i = 0; i < times; i++) note(build(n, b));
         break;
     case 'H': case 'M': case 'R':
@@ -233,6 +301,11 @@ __attribute__((used)) static void start(char **argv) {
         choose(n, what == 'h' ? 0 : what == 'm' ? 1 : 2);
         note(build(n, b));
         for (size_t i = 0; i < times; i++) note(near_ask(n, asks[i]));
+        break;
+    case '1': case '2': case '3':
+        choose(n, what - '1');
+        note(build(n, b));
+        for (size_t i = 0; i < times; i++) note(slim_ask(n, b, asks[i]));
         break;
     }
     print("digest=", digest);

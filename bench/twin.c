@@ -7,6 +7,7 @@
 //   DIVISION      remainders by M from a division for each, and not from the reciprocal of M
 //   SPECIALISED   the map builder compiled once for each kind of items, and not with a switch in what its loops call
 //   TRIAL         the 2-fattest number by trial of powers of two, and not from the highest differing bit of the two ends
+// An image that has only the full build and its two asks, or only the slim entries, leaves out the others: NO_SLIM, NO_FULL.
 #include "entries.h"
 
 #define MOST 32768
@@ -105,7 +106,18 @@ static inline unsigned bucket_length(const u64 *keys, size_t n, size_t b, size_t
     return end - first == 1 ? 63 : shared(keys[first], keys[end - 1]);
 }
 
-static inline unsigned len_at(const u64 *keys, size_t m) { return shared(keys[m - 1], keys[m]); }
+// What a neighbour index is over: the delimiters of buckets of b rows, k of them. With b = 1 they are the table itself, and are read
+// without a product.
+static inline u64 delimiter_at(const u64 *keys, size_t n, size_t b, size_t i) {
+    if (b == 1)
+        return keys[i];
+    size_t end = i * b + b;
+    return keys[(end <= n ? end : n) - 1];
+}
+
+static inline unsigned len_at(const u64 *keys, size_t n, size_t b, size_t m) {
+    return shared(delimiter_at(keys, n, b, m - 1), delimiter_at(keys, n, b, m));
+}
 
 // ---- the items of each map
 
@@ -119,12 +131,13 @@ static inline unsigned len_at(const u64 *keys, size_t m) { return shared(keys[m 
 #define WHOLE static inline
 #endif
 
-enum kind { KEYS, PREFIXES, HANDLES };
+// HANDLES are those of all rows, DELIMITERS the handles of the delimiters.
+enum kind { KEYS, PREFIXES, HANDLES, OFFSETS, DELIMITERS };
 
 struct map {
     enum kind kind;
     const u64 *keys;
-    size_t n, b; // rows, and rows in a bucket
+    size_t n, b, k; // rows, rows in a bucket, and buckets
     const u16 *left, *right;
     u64 mixed;   // the mixed seed
     size_t t, m; // items, and cells of a segment
@@ -133,22 +146,27 @@ struct map {
 
 static inline size_t handle_split(const u16 *left, size_t i) { return i + 1 < left[0] ? i + 1 : i + 2; }
 
+PART u64 handle_at(const struct map *p, size_t b, size_t k, size_t i) {
+    size_t m = handle_split(p->left, i), first = p->left[m], end = p->right[m];
+    unsigned q = 0;
+    if (first > 0)
+        q = len_at(p->keys, p->n, b, first);
+    if (end < k && len_at(p->keys, p->n, b, end) > q)
+        q = len_at(p->keys, p->n, b, end);
+    return prefix_item(delimiter_at(p->keys, p->n, b, m), fattest(q, len_at(p->keys, p->n, b, m)));
+}
+
 PART u64 item_at(const struct map *p, size_t i) {
-    const u64 *keys = p->keys;
     switch (p->kind) {
     case KEYS:
-        return keys[i];
+    case OFFSETS:
+        return p->keys[i];
     case PREFIXES:
-        return prefix_item(keys[i * p->b], bucket_length(keys, p->n, p->b, i));
-    default: {
-        size_t m = handle_split(p->left, i), first = p->left[m], end = p->right[m];
-        unsigned q = 0;
-        if (first > 0)
-            q = len_at(keys, first);
-        if (end < p->n && len_at(keys, end) > q)
-            q = len_at(keys, end);
-        return prefix_item(keys[m], fattest(q, len_at(keys, m)));
-    }
+        return prefix_item(p->keys[i * p->b], bucket_length(p->keys, p->n, p->b, i));
+    case HANDLES:
+        return handle_at(p, 1, p->n, i);
+    default:
+        return handle_at(p, p->b, p->k, i);
     }
 }
 
@@ -158,6 +176,8 @@ PART u16 value_at(const struct map *p, size_t i) {
         return 256 * bucket_length(p->keys, p->n, p->b, i / p->b) + i % p->b;
     case PREFIXES:
         return i;
+    case OFFSETS:
+        return i % p->b;
     default:
         return handle_split(p->left, i);
     }
@@ -219,7 +239,7 @@ PART size_t build_map(struct map *p, u64 seed, u16 *cells, u16 *work) {
     return t - w.turns;
 }
 
-// Map 1, map 2 and map 3.
+// Map 1, map 2 and map 3; and map 1 of the slim profile.
 WHOLE size_t build_keys(const u64 *keys, size_t n, size_t b, u64 seed, u16 *cells, u16 *work) {
     struct map p = {.kind = KEYS, .keys = keys, .n = n, .b = b, .t = n};
     return build_map(&p, seed, cells, work);
@@ -228,35 +248,40 @@ WHOLE size_t build_prefixes(const u64 *keys, size_t n, size_t b, size_t k, u64 s
     struct map p = {.kind = PREFIXES, .keys = keys, .n = n, .b = b, .t = k};
     return build_map(&p, seed, cells, work);
 }
-WHOLE size_t build_handles(const u64 *keys, size_t n, const u16 *left, const u16 *right, size_t t, u64 seed, u16 *handles, u16 *work) {
-    struct map p = {.kind = HANDLES, .keys = keys, .n = n, .left = left, .right = right, .t = t};
+WHOLE size_t build_handles(const u64 *keys, size_t n, size_t b, size_t k, const u16 *left, const u16 *right, u64 seed, u16 *handles,
+                           u16 *work) {
+    struct map p = {.kind = b == 1 ? HANDLES : DELIMITERS, .keys = keys, .n = n, .b = b, .k = k, .left = left, .right = right, .t = handle_count(k)};
     return build_map(&p, seed, handles, work);
+}
+WHOLE size_t build_offsets(const u64 *keys, size_t n, size_t b, u64 seed, u16 *cells, u16 *work) {
+    struct map p = {.kind = OFFSETS, .keys = keys, .n = n, .b = b, .t = n};
+    return build_map(&p, seed, cells, work);
 }
 
 // ---- the bounds of the splits
 
 // The rows of each split, by jumping over the rows of longer ones; entry 0 of left is the root.
-static inline void build_bounds(const u64 *keys, size_t n, u16 *left, u16 *right) {
-    if (n == 0)
+static inline void build_bounds(const u64 *keys, size_t n, size_t b, size_t k, u16 *left, u16 *right) {
+    if (k == 0)
         return;
-    for (size_t m = 1; m < n; m++) {
-        unsigned l = len_at(keys, m);
+    for (size_t m = 1; m < k; m++) {
+        unsigned l = len_at(keys, n, b, m);
         size_t j = m - 1;
-        while (j > 0 && len_at(keys, j) >= l)
+        while (j > 0 && len_at(keys, n, b, j) >= l)
             j = left[j];
         left[m] = j;
     }
-    for (size_t m = n - 1; m > 0; m--) {
-        unsigned l = len_at(keys, m);
+    for (size_t m = k - 1; m > 0; m--) {
+        unsigned l = len_at(keys, n, b, m);
         size_t j = m + 1;
-        while (j < n && len_at(keys, j) >= l)
+        while (j < k && len_at(keys, n, b, j) >= l)
             j = right[j];
         right[m] = j;
     }
     size_t root = 0;
     unsigned least = 65;
-    for (size_t m = 1; m < n; m++) {
-        unsigned l = len_at(keys, m);
+    for (size_t m = 1; m < k; m++) {
+        unsigned l = len_at(keys, n, b, m);
         if (l < least)
             least = l, root = m;
     }
@@ -265,16 +290,78 @@ static inline void build_bounds(const u64 *keys, size_t n, u16 *left, u16 *right
 }
 
 // The length of each split; entry 0 is 0.
-static inline void build_lengths(const u64 *keys, size_t n, u8 *lengths) {
-    if (n == 0)
+static inline void build_lengths(const u64 *keys, size_t n, size_t b, size_t k, u8 *lengths) {
+    if (k == 0)
         return;
     lengths[0] = 0;
-    for (size_t m = 1; m < n; m++)
-        lengths[m] = len_at(keys, m);
+    for (size_t m = 1; m < k; m++)
+        lengths[m] = len_at(keys, n, b, m);
+}
+
+// The neighbour index over the delimiters: map 3 with the bounds and the lengths.
+static inline size_t build_neighbour(const u64 *keys, size_t n, size_t b, size_t k, u64 seed3, u16 *handles, u16 *left, u16 *right, u16 *work,
+                                     u8 *lengths) {
+    build_bounds(keys, n, b, k, left, right);
+    build_lengths(keys, n, b, k, lengths);
+    return build_handles(keys, n, b, k, left, right, seed3, handles, work);
+}
+
+// What a jam leaves. The work is 0 already: each map leaves it so, and map 1 takes all of its named length.
+static inline u64 jammed(size_t map, size_t size, size_t k, u16 *cells, size_t cells_all, u16 *handles, size_t handles_all, u16 *left,
+                         u16 *right, u8 *lengths) {
+    __builtin_memset(cells, 0, cells_all * sizeof *cells);
+    __builtin_memset(handles, 0, handles_all * sizeof *handles);
+    __builtin_memset(left, 0, k * sizeof *left);
+    __builtin_memset(right, 0, k * sizeof *right);
+    __builtin_memset(lengths, 0, k);
+    return JAMMED(map, size);
+}
+
+// ---- the walk
+
+static inline u64 place(const u64 *keys, size_t n, size_t b, size_t k, u64 x, size_t before, u64 probes) {
+    u64 stands = before < k && delimiter_at(keys, n, b, before) == x;
+    return before | probes << 32 | stands << 40;
+}
+
+// The walk over the delimiters, once the stores are seen to be long enough.
+static inline u64 walk(const u64 *keys, size_t n, size_t b, size_t k, u64 seed3, const u16 *handles, const u16 *left, const u16 *right,
+                       const u8 *lengths, u64 x) {
+    size_t t = handle_count(k);
+    if (k == 0)
+        return place(keys, n, b, k, x, 0, 0);
+    if (k == 1)
+        return place(keys, n, b, k, x, x > delimiter_at(keys, n, b, 0), 0);
+    size_t node = left[0];
+    if (node == 0 || node >= k)
+        return REFUSED(6, 0);
+    unsigned lower = lengths[node], upper = 64;
+    if (lower > 63)
+        return REFUSED(6, 0);
+    if (shared(x, delimiter_at(keys, n, b, node)) < lower)
+        return place(keys, n, b, k, x, x <= delimiter_at(keys, n, b, node) ? 0 : k, 0);
+    u64 probes = 0;
+    while (lower + 1 < upper) {
+        unsigned f = fattest(lower, upper - 1);
+        size_t m = look_up(handles, t, seed3, prefix_item(x, f));
+        probes++;
+        unsigned l;
+        if (m > 0 && m < k && (l = lengths[m]) >= f && l < upper && shared(x, delimiter_at(keys, n, b, m)) >= l)
+            node = m, lower = l;
+        else
+            upper = f;
+    }
+    size_t first = left[node], end = right[node];
+    if (!(first < node && node < end && end <= k))
+        return REFUSED(6, 0);
+    if (x >> (63 - lower) & 1)
+        return place(keys, n, b, k, x, x <= delimiter_at(keys, n, b, node) ? node : end, probes);
+    return place(keys, n, b, k, x, x <= delimiter_at(keys, n, b, first) ? first : node, probes);
 }
 
 // ---- the entries
 
+#ifndef NO_FULL
 u64 index_full_build(const u64 *keys, size_t n, size_t b, u64 seed1, u64 seed2, u64 seed3, u16 *cells, size_t cells_n, u16 *handles,
                      size_t handles_n, u16 *left, size_t left_n, u16 *right, size_t right_n, u16 *work, size_t work_n, u8 *lengths,
                      size_t lengths_n) {
@@ -285,7 +372,7 @@ u64 index_full_build(const u64 *keys, size_t n, size_t b, u64 seed1, u64 seed2, 
     size_t row = first_fall(keys, n);
     if (row > 0)
         return REFUSED(3, row);
-    size_t k = bucket_count(n, b), t = handle_count(n), c = cell_count(n), cells_all = c + cell_count(k), handles_all = cell_count(t);
+    size_t k = bucket_count(n, b), c = cell_count(n), cells_all = c + cell_count(k), handles_all = cell_count(handle_count(n));
     if (cells_n < cells_all)
         return REFUSED(4, 1);
     if (handles_n < handles_all)
@@ -301,20 +388,11 @@ u64 index_full_build(const u64 *keys, size_t n, size_t b, u64 seed1, u64 seed2, 
     size_t map = 1, size = build_keys(keys, n, b, seed1, cells, work);
     if (!size)
         map = 2, size = build_prefixes(keys, n, b, k, seed2, cells + c, work);
-    if (!size) {
-        build_bounds(keys, n, left, right);
-        build_lengths(keys, n, lengths);
-        map = 3, size = build_handles(keys, n, left, right, t, seed3, handles, work);
-        if (!size)
-            return 0;
-    }
-    // The work is 0 already: each map leaves it so, and map 1 takes all of its named length.
-    __builtin_memset(cells, 0, cells_all * sizeof *cells);
-    __builtin_memset(handles, 0, handles_all * sizeof *handles);
-    __builtin_memset(left, 0, n * sizeof *left);
-    __builtin_memset(right, 0, n * sizeof *right);
-    __builtin_memset(lengths, 0, n);
-    return JAMMED(map, size);
+    if (!size)
+        map = 3, size = build_neighbour(keys, n, 1, n, seed3, handles, left, right, work, lengths);
+    if (!size)
+        return 0;
+    return jammed(map, size, n, cells, cells_all, handles, handles_all, left, right, lengths);
 }
 
 u64 index_call_ask(const u64 *keys, size_t n, const u8 *bytes, size_t bytes_n, size_t b, u64 seed1, u64 seed2, const u16 *cells,
@@ -338,17 +416,11 @@ u64 index_call_ask(const u64 *keys, size_t n, const u8 *bytes, size_t bytes_n, s
     return bytes[row] == 0 ? row : WITHDRAWN(row);
 }
 
-static inline u64 place(const u64 *keys, size_t n, u64 x, size_t before, u64 probes) {
-    u64 stands = before < n && keys[before] == x;
-    return before | probes << 32 | stands << 40;
-}
-
 u64 index_neighbour_ask(const u64 *keys, size_t n, u64 seed3, const u16 *handles, size_t handles_n, const u16 *left, size_t left_n,
                  const u16 *right, size_t right_n, const u8 *lengths, size_t lengths_n, u64 x) {
     if (n > MOST)
         return REFUSED(1, 0);
-    size_t t = handle_count(n);
-    if (handles_n < cell_count(t))
+    if (handles_n < cell_count(handle_count(n)))
         return REFUSED(4, 2);
     if (left_n < n)
         return REFUSED(4, 3);
@@ -356,33 +428,71 @@ u64 index_neighbour_ask(const u64 *keys, size_t n, u64 seed3, const u16 *handles
         return REFUSED(4, 4);
     if (lengths_n < n)
         return REFUSED(4, 6);
-    if (n == 0)
-        return place(keys, n, x, 0, 0);
-    if (n == 1)
-        return place(keys, n, x, x > keys[0], 0);
-    size_t node = left[0];
-    if (node == 0 || node >= n)
-        return REFUSED(6, 0);
-    unsigned lower = lengths[node], upper = 64;
-    if (lower > 63)
-        return REFUSED(6, 0);
-    if (shared(x, keys[node]) < lower)
-        return place(keys, n, x, x <= keys[node] ? 0 : n, 0);
-    u64 probes = 0;
-    while (lower + 1 < upper) {
-        unsigned f = fattest(lower, upper - 1);
-        size_t m = look_up(handles, t, seed3, prefix_item(x, f));
-        probes++;
-        unsigned l;
-        if (m > 0 && m < n && (l = lengths[m]) >= f && l < upper && shared(x, keys[m]) >= l)
-            node = m, lower = l;
-        else
-            upper = f;
-    }
-    size_t first = left[node], end = right[node];
-    if (!(first < node && node < end && end <= n))
-        return REFUSED(6, 0);
-    if (x >> (63 - lower) & 1)
-        return place(keys, n, x, x <= keys[node] ? node : end, probes);
-    return place(keys, n, x, x <= keys[first] ? first : node, probes);
+    return walk(keys, n, 1, n, seed3, handles, left, right, lengths, x);
 }
+#endif
+
+#ifndef NO_SLIM
+u64 index_slim_build(const u64 *keys, size_t n, size_t b, u64 seed1, u64 seed3, u16 *offsets, size_t offsets_n, u16 *handles,
+                     size_t handles_n, u16 *left, size_t left_n, u16 *right, size_t right_n, u16 *work, size_t work_n, u8 *lengths,
+                     size_t lengths_n) {
+    if (n > MOST)
+        return REFUSED(1, 0);
+    if (b < 2 || b > 256)
+        return REFUSED(2, 0);
+    size_t row = first_fall(keys, n);
+    if (row > 0)
+        return REFUSED(3, row);
+    size_t k = bucket_count(n, b), c = cell_count(n), handles_all = cell_count(handle_count(k));
+    if (offsets_n < c)
+        return REFUSED(4, 1);
+    if (handles_n < handles_all)
+        return REFUSED(4, 2);
+    if (left_n < k)
+        return REFUSED(4, 3);
+    if (right_n < k)
+        return REFUSED(4, 4);
+    if (work_n < 2 * c + 2 * n)
+        return REFUSED(4, 5);
+    if (lengths_n < k)
+        return REFUSED(4, 6);
+    size_t map = 1, size = build_offsets(keys, n, b, seed1, offsets, work);
+    if (!size)
+        map = 3, size = build_neighbour(keys, n, b, k, seed3, handles, left, right, work, lengths);
+    if (!size)
+        return 0;
+    return jammed(map, size, k, offsets, c, handles, handles_all, left, right, lengths);
+}
+
+u64 index_slim_ask(const u64 *keys, size_t n, const u8 *bytes, size_t bytes_n, size_t b, u64 seed1, u64 seed3, const u16 *offsets,
+                   size_t offsets_n, const u16 *handles, size_t handles_n, const u16 *left, size_t left_n, const u16 *right, size_t right_n,
+                   const u8 *lengths, size_t lengths_n, u64 x) {
+    if (n > MOST)
+        return REFUSED(1, 0);
+    if (b < 2 || b > 256)
+        return REFUSED(2, 0);
+    size_t k = bucket_count(n, b);
+    if (offsets_n < cell_count(n))
+        return REFUSED(4, 1);
+    if (handles_n < cell_count(handle_count(k)))
+        return REFUSED(4, 2);
+    if (left_n < k)
+        return REFUSED(4, 3);
+    if (right_n < k)
+        return REFUSED(4, 4);
+    if (lengths_n < k)
+        return REFUSED(4, 6);
+    if (bytes_n < n)
+        return REFUSED(4, 7);
+    u64 near = walk(keys, n, b, k, seed3, handles, left, right, lengths, x);
+    if (near >> 63)
+        return near;
+    size_t bucket = (u16)near;
+    if (bucket == k)
+        return near | BESIDE_ABSENT;
+    size_t row = bucket * b + look_up(offsets, n, seed1, x);
+    if (row >= n || keys[row] != x)
+        return near | BESIDE_ABSENT;
+    return near | (bytes[row] == 0 ? BESIDE(row) : BESIDE_WITHDRAWN(row));
+}
+#endif

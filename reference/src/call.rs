@@ -75,7 +75,7 @@ pub fn judge_limits(keys: &[u64], bucket: usize) -> Result<(), Refusal> {
     }
 }
 
-/// What the call index says of a key. A withdrawn key keeps its row.
+/// What an ask says of a key. A withdrawn key keeps its row.
 #[derive(Clone, Copy, Debug, PartialEq, Eq)]
 pub enum Outcome {
     /// The key stands in this row, and the row's byte is 0.
@@ -92,6 +92,19 @@ impl Outcome {
             Outcome::Planned(row) | Outcome::Withdrawn(row) => Some(row),
             Outcome::Absent => None,
         }
+    }
+}
+
+/// What is known of x if it stands in this row or nowhere: the table's key is compared, then the
+/// row's byte decides.
+pub fn compared(keys: &[u64], row_bytes: &[u8], row: usize, x: u64) -> Outcome {
+    if row >= keys.len() || keys[row] != x {
+        return Outcome::Absent;
+    }
+    if row_bytes[row] == 0 {
+        Outcome::Planned(row)
+    } else {
+        Outcome::Withdrawn(row)
     }
 }
 
@@ -117,9 +130,5 @@ pub fn ask(
     let second = &cells[maps::cell_count(n)..];
     let item = prefix_item(x, length as u32);
     let i = usize::from(maps::lookup(item, seeds[1], bucket_count(n, bucket), second));
-    let row = i * bucket + offset;
-    if row >= n || keys[row] != x {
-        return Ok(Outcome::Absent);
-    }
-    Ok(if row_bytes[row] == 0 { Outcome::Planned(row) } else { Outcome::Withdrawn(row) })
+    Ok(compared(keys, row_bytes, i * bucket + offset, x))
 }

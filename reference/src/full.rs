@@ -1,10 +1,11 @@
 //! The full build: maps 1, 2 and 3 with `left`, `right` and the lengths, all in lent memory.
 
+use crate::neighbour::Wanted;
 use crate::refusal::{jam, judge_store, BuildRefusal, Refusal};
 use crate::table::judge_rising;
 use crate::{call, maps, neighbour};
 
-/// The memory lent to the build: stores 1 to 6.
+/// The memory lent to a build: stores 1 to 6. The slim profile's offset cells are its store 1 too.
 #[derive(Clone, Debug, Default, PartialEq, Eq)]
 pub struct Stores {
     pub cells: Vec<u16>,
@@ -30,11 +31,6 @@ impl Stores {
         Stores { cells, handles, left, right, work, lengths }
     }
 
-    /// Stores of just the named lengths, all 0.
-    pub fn named(n: usize, bucket: usize) -> Stores {
-        Stores::filled(named(n, bucket), |_| 0)
-    }
-
     /// What the stores hold, in the order of their numbers.
     pub fn all(&self) -> [Vec<u16>; 6] {
         let lengths = self.lengths.iter().map(|&entry| u16::from(entry)).collect();
@@ -43,12 +39,21 @@ impl Stores {
     }
 
     /// Sets so many entries of each store to 0.
-    fn clear(&mut self, named: [usize; 6]) {
+    pub fn clear(&mut self, named: [usize; 6]) {
         let Stores { cells, handles, left, right, work, lengths } = self;
         for (store, length) in [cells, handles, left, right, work].into_iter().zip(named) {
             store[..length].fill(0);
         }
         lengths[..named[5]].fill(0);
+    }
+
+    /// Writes a neighbour index, whose handle cells are these.
+    pub fn put_neighbour(&mut self, handles: &[u16], wanted: &Wanted) {
+        let n = wanted.left.len();
+        self.handles[..handles.len()].copy_from_slice(handles);
+        self.left[..n].copy_from_slice(&wanted.left);
+        self.right[..n].copy_from_slice(&wanted.right);
+        self.lengths[..n].copy_from_slice(&wanted.lengths);
     }
 
     /// Asks the call index in these stores, with the row bytes beside them.
@@ -83,6 +88,27 @@ pub fn jammed<T>(said: &Result<T, BuildRefusal>) -> usize {
     said.as_ref().err().map_or(0, |refused| refused.jammed)
 }
 
+/// Refusals 1 to 4 of a build, the stores judged together; where none applies, their named lengths.
+pub fn judge(
+    keys: &[u64],
+    bucket: usize,
+    stores: &Stores,
+    named: fn(usize, usize) -> [usize; 6],
+) -> Result<[usize; 6], Refusal> {
+    call::judge_limits(keys, bucket)?;
+    judge_rising(keys)?;
+    let named = named(keys.len(), bucket);
+    for (i, store) in stores.all().into_iter().enumerate() {
+        judge_store(i + 1, store.len(), named[i])?;
+    }
+    Ok(named)
+}
+
+/// The cells of a map, or refusal 5 with the size of its largest jam.
+pub fn fill(map: usize, wanted: &[(u64, u16)], seed: u64) -> Result<Vec<u16>, BuildRefusal> {
+    maps::fill(wanted, seed).map_err(|jammed| BuildRefusal { refusal: jam(map), jammed })
+}
+
 /// Builds both indexes, each map under its own seed.
 pub fn build(
     keys: &[u64],
@@ -90,28 +116,14 @@ pub fn build(
     seeds: [u64; 3],
     stores: &mut Stores,
 ) -> Result<(), BuildRefusal> {
-    call::judge_limits(keys, bucket)?;
-    judge_rising(keys)?;
-    let n = keys.len();
-    let named = named(n, bucket);
-    for (i, store) in stores.all().into_iter().enumerate() {
-        judge_store(i + 1, store.len(), named[i])?;
-    }
-
+    let named = judge(keys, bucket, stores, named)?;
     // A jam leaves all stores 0, and work is 0 after acceptance too; nothing here needs work.
     stores.clear(named);
-    let fill = |map: usize, wanted: &[(u64, u16)]| {
-        let refused = |jammed| BuildRefusal { refusal: jam(map), jammed };
-        maps::fill(wanted, seeds[map - 1]).map_err(refused)
-    };
-    let first = fill(1, &call::key_values(keys, bucket))?;
-    let second = fill(2, &call::bucket_values(keys, bucket))?;
+    let first = fill(1, &call::key_values(keys, bucket), seeds[0])?;
+    let second = fill(2, &call::bucket_values(keys, bucket), seeds[1])?;
     let wanted = neighbour::wanted(keys);
-    let third = fill(3, &wanted.handles)?;
+    let third = fill(3, &wanted.handles, seeds[2])?;
     stores.cells[..named[0]].copy_from_slice(&[first, second].concat());
-    stores.handles[..named[1]].copy_from_slice(&third);
-    stores.left[..n].copy_from_slice(&wanted.left);
-    stores.right[..n].copy_from_slice(&wanted.right);
-    stores.lengths[..n].copy_from_slice(&wanted.lengths);
+    stores.put_neighbour(&third, &wanted);
     Ok(())
 }

@@ -12,21 +12,26 @@ mod maps;
 mod mix;
 mod neighbour;
 mod plant;
+mod profile;
 mod reads;
 mod refusal;
 mod rowcheck;
 mod samples;
 mod selfcheck;
+mod slim;
+mod space;
 mod table;
 mod vectors;
 
 use std::io::{Read, Write};
 use std::process::ExitCode;
 
-const USAGE: &str = "usage: reference VECTORS | rowcheck | selfcheck | cases DIR | chance | reads
+const USAGE: &str =
+    "usage: reference VECTORS | rowcheck | selfcheck | cases DIR | chance | reads | space
 VECTORS is a name of docs/VECTORS.md; rowcheck reads standard input;
 chance tells how often seeds jam by chance, and how badly;
-reads tells how many rows of the table a walk reads, without and with the stored lengths";
+reads tells how many rows of the table a walk reads, without and with the stored lengths;
+space tells how many bits a key the stores of both profiles take";
 
 fn print(text: &str) {
     std::io::stdout().write_all(text.as_bytes()).expect("standard output can be written");
@@ -49,6 +54,7 @@ fn main() -> ExitCode {
         ["selfcheck"] => selfcheck::run(),
         ["chance"] => print(&chance::text()),
         ["reads"] => print(&reads::text()),
+        ["space"] => print(&space::text()),
         ["cases", directory] => cases::write(directory.as_ref()).expect("the cases can be written"),
         [name] => match vectors::text(name) {
             Some(text) => print(&text),

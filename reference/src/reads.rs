@@ -4,9 +4,9 @@
 use crate::full::Stores;
 use crate::maps;
 use crate::neighbour::{handle_count, Answer};
+use crate::profile::Built;
 use crate::refusal::{Refusal, SPOILED_BOUNDS};
-use crate::rowcheck::{self, Built};
-use crate::{samples, vectors};
+use crate::{rowcheck, samples, vectors};
 use std::cell::RefCell;
 use std::collections::BTreeSet;
 use std::fmt::Write;

@@ -1,10 +1,8 @@
 //! The program `rowcheck`: text in, text out.
 
-use crate::full::{self, Stores};
+use crate::profile::{Built, Profile};
 use crate::refusal::{BuildRefusal, Refusal, BAD_TEXT};
 use std::fmt::Write;
-
-const SEEDS: u64 = 256;
 
 pub struct Input {
     pub bucket: usize,
@@ -73,31 +71,14 @@ pub fn parse(text: &[u8]) -> Result<Input, Refusal> {
     parse_lines(body.split(|&byte| byte == b'\n')).ok_or(BAD_TEXT)
 }
 
-pub struct Built {
-    pub seed: u64,
-    pub stores: Stores,
-}
-
 /// Both indexes under one seed for all maps.
 pub fn build_with(keys: &[u64], bucket: usize, seed: u64) -> Result<Built, BuildRefusal> {
-    // Without buckets there are no named lengths, and the build refuses whatever it is lent.
-    let mut stores =
-        if bucket == 0 { Stores::default() } else { Stores::named(keys.len(), bucket) };
-    full::build(keys, bucket, [seed; 3], &mut stores)?;
-    Ok(Built { seed, stores })
+    Profile::Full.built_with(keys, bucket, seed)
 }
 
 /// Both indexes under the first seed that the build takes, or what it says of the last seed.
 pub fn build(keys: &[u64], bucket: usize) -> Result<Built, BuildRefusal> {
-    let mut last = build_with(keys, bucket, 0);
-    for seed in 1..SEEDS {
-        // Only a jam depends on the seed.
-        if !last.as_ref().is_err_and(BuildRefusal::is_jam) {
-            break;
-        }
-        last = build_with(keys, bucket, seed);
-    }
-    last
+    Profile::Full.built(keys, bucket)
 }
 
 fn answers(input: &Input) -> Result<String, BuildRefusal> {

@@ -8,24 +8,26 @@ use crate::gen::Gen;
 use crate::keys::{pack, unpack, Fields};
 use crate::maps::items_of;
 use crate::mix::{item_hash, mix};
+use crate::profile::{Built, Profile};
 use crate::reads::{self, Source};
 use crate::refusal::{jam, BuildRefusal, Refusal};
-use crate::rowcheck::{self, Built};
-use crate::{call, cases, maps, neighbour, plant, samples, table, vectors};
+use crate::{call, cases, maps, neighbour, plant, rowcheck, samples, slim, table, vectors};
 use std::collections::BTreeSet;
+
+mod slim_profile;
 
 /// A group of checks, which gives their number.
 type Group = (&'static str, fn() -> usize);
 
 pub fn run() {
-    let groups: [Group; 21] = [
+    let groups: [Group; 30] = [
         ("constants", constants),
         ("bits", bits),
         ("key fields", key_fields),
         ("largest jam by removing and by all sets", jams),
         ("eleven-key table", eleven_key_table),
         ("answers after accepted builds", answers),
-        ("refusals of the build", build_refusals),
+        ("refusals of the builds", build_refusals),
         ("refusals of the asks", ask_refusals),
         ("planned, withdrawn or absent", outcomes),
         ("withdrawn rows over damaged cells", damaged_cells),
@@ -36,10 +38,19 @@ pub fn run() {
         ("false lengths by another walk", false_lengths),
         ("short stores", short_stores),
         ("sizes of jams", jam_sizes),
-        ("what a build leaves", lent_memory),
+        ("what builds leave", lent_memory),
         ("planted items", planted),
         ("rowcheck", rowcheck_example),
         ("rowcheck where all seeds jam", rowcheck_jams),
+        ("slim profile by hand", slim_profile::by_hand),
+        ("slim delimiters, offsets and handles", slim_profile::stores),
+        ("slim answers beside the full index's", slim_profile::answers),
+        ("slim tables of no bucket and of one", slim_profile::few_buckets),
+        ("slim jams by all sets", slim_profile::jams),
+        ("all faults of a slim ask together", slim_profile::faults),
+        ("slim offsets of every size", slim_profile::offsets),
+        ("slim asks over damaged stores by another ask", slim_profile::damaged),
+        ("slim vectors beside the full ones", slim_profile::vector_words),
     ];
     for (name, group) in groups {
         println!("{name}: {} checks", group());
@@ -324,8 +335,9 @@ fn pattern(i: usize) -> u16 {
     257 * (1 + i % 255) as u16
 }
 
-/// Looks whether the build gives this refusal, tells of no jam and changes nothing.
+/// Looks whether a build gives this refusal, tells of no jam and changes nothing.
 fn check_refused(
+    profile: Profile,
     keys: &[u64],
     bucket: usize,
     seeds: [u64; 3],
@@ -334,7 +346,7 @@ fn check_refused(
 ) {
     let mut stores = Stores::filled(sizes, pattern);
     let before = stores.clone();
-    let said = full::build(keys, bucket, seeds, &mut stores);
+    let said = profile.build(keys, bucket, seeds, &mut stores);
     assert_eq!(said, Err(BuildRefusal { refusal, jammed: 0 }));
     assert_eq!(stores, before);
 }
@@ -345,8 +357,10 @@ fn build_refusals() -> usize {
     let mut checks = 0;
     let mut refused = |keys: &[u64], bucket: usize, number: u32, named: usize| {
         for sizes in [[0; 6], [100; 6]] {
-            check_refused(keys, bucket, [0; 3], sizes, Refusal { number, named });
-            checks += 1;
+            for profile in Profile::BOTH {
+                check_refused(profile, keys, bucket, [0; 3], sizes, Refusal { number, named });
+                checks += 1;
+            }
         }
     };
     for bucket in [0, 1, 2, 256, 257] {
@@ -574,7 +588,8 @@ fn spoiled_bounds() -> usize {
     // Equal keys share 64 bits; only a stored length of so many is refused.
     for (length, expected) in [(64, refused(6, 0)), (63, Ok(0)), (0, Ok(0))] {
         let lengths = vec![0, length];
-        let stores = Stores { left: vec![1, 0], right: vec![0, 2], lengths, ..Stores::named(2, 2) };
+        let stores =
+            Stores { left: vec![1, 0], right: vec![0, 2], lengths, ..Profile::Full.stores(2, 2) };
         assert_eq!(stores.neighbour(&[4, 4], 0, 4).map(|answer| answer.before), expected);
     }
     spoiled.len() + 3
@@ -697,26 +712,39 @@ fn short_stores() -> usize {
     // Work has the length that the keys want, for no key and for one too.
     assert_eq!(full::named(0, 2), [18, 9, 0, 0, 18, 0]);
     assert_eq!(full::named(1, 2), [18, 9, 1, 1, 20, 1]);
-    let mut checks = 2;
+    assert_eq!(slim::named(0, 2), [9, 9, 0, 0, 18, 0]);
+    assert_eq!(slim::named(1, 2), [9, 9, 1, 1, 20, 1]);
+    // Seven keys by twos are four delimiters, with two handles.
+    assert_eq!(slim::named(7, 2), [15, 9, 4, 4, 44, 4]);
+    assert_eq!(slim::named(32_768, 256), [41_295, 165, 128, 128, 148_126, 128]);
+    let mut checks = 6;
     for n in [0, 1, 2, 3, 5, 17, 40] {
-        let keys = samples::table("spread", n);
         for bucket in [2, 3, 256] {
-            let named = full::named(n, bucket);
-            let maps = full::three_maps(&keys, bucket);
-            let seeds = [0, 1, 2].map(|i| (0..64).find(|&seed| jams_under(&maps[i], seed)));
-            let seeds = seeds.map(|seed| seed.unwrap_or(0));
-            for set in 1..64 {
-                let short = |i: usize| set >> i & 1 == 1;
-                let Some(first) = (0..6).find(|&i| short(i) && named[i] > 0) else { continue };
-                let all = [0, 1, 2, 3, 4, 5];
-                let by_one = all.map(|i| named[i].saturating_sub(usize::from(short(i))));
-                let by_all = all.map(|i| if short(i) { 0 } else { named[i] });
-                for sizes in [by_one, by_all] {
-                    let refusal = Refusal { number: 4, named: first + 1 };
-                    check_refused(&keys, bucket, seeds, sizes, refusal);
-                    checks += 1;
-                }
+            for profile in Profile::BOTH {
+                checks += check_short(profile, &samples::table("spread", n), bucket);
             }
+        }
+    }
+    checks
+}
+
+fn check_short(profile: Profile, keys: &[u64], bucket: usize) -> usize {
+    let mut checks = 0;
+    let named = profile.named(keys.len(), bucket);
+    let mut seeds = [0; 3];
+    for (map, wanted) in profile.maps(keys, bucket) {
+        seeds[map - 1] = (0..64).find(|&seed| jams_under(&wanted, seed)).unwrap_or(0);
+    }
+    for set in 1..64 {
+        let short = |i: usize| set >> i & 1 == 1;
+        let Some(first) = (0..6).find(|&i| short(i) && named[i] > 0) else { continue };
+        let all = [0, 1, 2, 3, 4, 5];
+        let by_one = all.map(|i| named[i].saturating_sub(usize::from(short(i))));
+        let by_all = all.map(|i| if short(i) { 0 } else { named[i] });
+        for sizes in [by_one, by_all] {
+            let refusal = Refusal { number: 4, named: first + 1 };
+            check_refused(profile, keys, bucket, seeds, sizes, refusal);
+            checks += 1;
         }
     }
     checks
@@ -728,13 +756,18 @@ fn jams_under(wanted: &[(u64, u16)], seed: u64) -> bool {
     !peeling.jam.is_empty()
 }
 
-/// What the build is to say of these seeds where nothing else is wrong: the first map with a jam,
-/// and the size of its largest one.
-fn expected(keys: &[u64], bucket: usize, seeds: [u64; 3]) -> Result<(), BuildRefusal> {
-    for (i, wanted) in full::three_maps(keys, bucket).iter().enumerate() {
-        let jammed = jam_by_rounds(&maps::triples(&items_of(wanted), seeds[i])).len();
+/// What a build is to say of these seeds where nothing else is wrong: the first map with a jam, and
+/// the size of its largest one.
+fn expected(
+    profile: Profile,
+    keys: &[u64],
+    bucket: usize,
+    seeds: [u64; 3],
+) -> Result<(), BuildRefusal> {
+    for (map, wanted) in profile.maps(keys, bucket) {
+        let jammed = jam_by_rounds(&maps::triples(&items_of(&wanted), seeds[map - 1])).len();
         if jammed > 0 {
-            return Err(BuildRefusal { refusal: jam(i + 1), jammed });
+            return Err(BuildRefusal { refusal: jam(map), jammed });
         }
     }
     Ok(())
@@ -744,20 +777,25 @@ fn expected(keys: &[u64], bucket: usize, seeds: [u64; 3]) -> Result<(), BuildRef
 fn jam_sizes() -> usize {
     let mut gen = Gen::new(7);
     let mut checks = 0;
-    let mut seen = [(); 4].map(|_| BTreeSet::new());
-    for round in 0..6000 {
-        let n = round % 60;
-        let keys = gen.rising(n, Gen::next);
-        let bucket = [2, 3, 16][round / 2000];
-        let seeds = [gen.next(), gen.next(), gen.next()];
-        let said = full::build(&keys, bucket, seeds, &mut Stores::named(n, bucket));
-        assert_eq!(said, expected(&keys, bucket, seeds));
-        let map = said.err().map_or(0, |refused| refused.refusal.named);
-        seen[map].insert(full::jammed(&said));
-        checks += 1;
+    for profile in Profile::BOTH {
+        let mut seen = [(); 4].map(|_| BTreeSet::new());
+        for round in 0..6000 {
+            let n = round % 60;
+            let keys = gen.rising(n, Gen::next);
+            let bucket = [2, 3, 16][round / 2000];
+            let seeds = [gen.next(), gen.next(), gen.next()];
+            let said = profile.build(&keys, bucket, seeds, &mut profile.stores(n, bucket));
+            assert_eq!(said, expected(profile, &keys, bucket, seeds));
+            let map = said.err().map_or(0, |refused| refused.refusal.named);
+            seen[map].insert(full::jammed(&said));
+            checks += 1;
+        }
+        assert_eq!(seen[0], BTreeSet::from([0]));
+        for (map, _) in profile.maps(&RISING, 2) {
+            assert!(seen[map].len() > 10 && seen[map].first() == Some(&2));
+        }
+        assert_eq!(seen[2].is_empty(), profile == Profile::Slim);
     }
-    assert_eq!(seen[0], BTreeSet::from([0]));
-    assert!(seen[1..].iter().all(|sizes| sizes.len() > 10 && sizes.first() == Some(&2)));
 
     // All the keys of a table, in jams of two, which only together are the largest, and in one jam.
     for n in [2, 4, 10, 12, 300] {
@@ -767,54 +805,73 @@ fn jam_sizes() -> usize {
         let one: Vec<u64> = others.chain([centre]).collect();
         for mut keys in [twos, one] {
             keys.sort();
-            let said = full::build(&keys, 16, [seed; 3], &mut Stores::named(n, 16));
-            assert_eq!(said, Err(BuildRefusal { refusal: jam(1), jammed: n }));
-            checks += 1;
+            for profile in Profile::BOTH {
+                let said = profile.build(&keys, 16, [seed; 3], &mut profile.stores(n, 16));
+                assert_eq!(said, Err(BuildRefusal { refusal: jam(1), jammed: n }));
+                checks += 1;
+            }
         }
     }
     checks
 }
 
-/// What builds leave in stores that are longer than they must be. Every set of the three maps is
-/// made to jam, each map by a seed of its own that is searched for.
+/// What builds leave in stores that are longer than they must be. Every set of the maps is made to
+/// jam, each map by a seed of its own that is searched for.
 fn lent_memory() -> usize {
     let mut gen = Gen::new(5);
-    let mut seen = [0; 8];
-    for round in 0..240 {
-        let keys = gen.rising(round % 60, Gen::next);
-        let bucket = [2, 3, 7, 256][round / 60];
-        let maps = full::three_maps(&keys, bucket);
-        for (set, seen) in seen.iter_mut().enumerate() {
-            let from = gen.next() >> 1;
-            let seeds = [0, 1, 2].map(|i| {
-                let wanted = set >> i & 1 == 1;
-                (from..from + 200).find(|&seed| jams_under(&maps[i], seed) == wanted)
-            });
-            if let [Some(one), Some(two), Some(three)] = seeds {
-                let first = [1, 2, 3].into_iter().find(|map| set >> (map - 1) & 1 == 1);
-                check_left(&keys, bucket, [one, two, three], first.map(jam));
-                *seen += 1;
+    let mut checks = 0;
+    for profile in Profile::BOTH {
+        let mut seen = vec![0; profile.jammable().len()];
+        for round in 0..240 {
+            let keys = gen.rising(round % 60, Gen::next);
+            let bucket = [2, 3, 7, 256][round / 60];
+            let maps = profile.maps(&keys, bucket);
+            let sets = profile.jammable();
+            for (&set, seen) in sets.iter().zip(&mut seen) {
+                let jams = |map: usize| set >> (map - 1) & 1 == 1;
+                let from = gen.next() >> 1;
+                let mut seeds = [from; 3];
+                let found = maps.iter().all(|(map, wanted)| {
+                    let mut some = from..from + 200;
+                    let seed = some.find(|&seed| jams_under(wanted, seed) == jams(*map));
+                    seeds[map - 1] = seed.unwrap_or(from);
+                    seed.is_some()
+                });
+                if found {
+                    let first = maps.iter().map(|(map, _)| *map).find(|&map| jams(map));
+                    check_left(profile, &keys, bucket, seeds, first.map(jam));
+                    *seen += 1;
+                }
+            }
+            // The same seed for all maps.
+            for seed in 0..10 {
+                let first = maps.iter().find(|(_, wanted)| jams_under(wanted, seed));
+                check_left(profile, &keys, bucket, [seed; 3], first.map(|(map, _)| jam(*map)));
+                checks += 1;
             }
         }
-        // The same seed for all maps.
-        for seed in 0..10 {
-            let first = [1, 2, 3].into_iter().find(|map| jams_under(&maps[map - 1], seed));
-            check_left(&keys, bucket, [seed; 3], first.map(jam));
-        }
+        // Small tables jam often enough for every set of the profile's maps.
+        let often = if profile == Profile::Full { 40 } else { 20 };
+        assert!(seen.iter().all(|&count| count > often), "{seen:?}");
+        checks += seen.iter().sum::<usize>();
     }
-    // Small tables jam often enough for every set.
-    assert!(seen.iter().all(|&count| count > 40));
-    10 * 240 + seen.iter().sum::<usize>()
+    checks
 }
 
 /// Builds, expecting this refusal or none, and looks at all that is left in the stores.
-fn check_left(keys: &[u64], bucket: usize, seeds: [u64; 3], refusal: Option<Refusal>) {
+fn check_left(
+    profile: Profile,
+    keys: &[u64],
+    bucket: usize,
+    seeds: [u64; 3],
+    refusal: Option<Refusal>,
+) {
     let n = keys.len();
-    let named = full::named(n, bucket);
+    let named = profile.named(n, bucket);
     let mut stores = Stores::filled(named.map(|length| length + 5), pattern);
     let before = stores.clone();
-    let said = full::build(keys, bucket, seeds, &mut stores);
-    assert_eq!(said, expected(keys, bucket, seeds));
+    let said = profile.build(keys, bucket, seeds, &mut stores);
+    assert_eq!(said, expected(profile, keys, bucket, seeds));
     assert_eq!(said.err().map(|refused| refused.refusal), refusal);
     for (i, (store, before)) in stores.all().iter().zip(before.all()).enumerate() {
         assert_eq!(store[named[i]..], before[named[i]..]);
@@ -825,19 +882,31 @@ fn check_left(keys: &[u64], bucket: usize, seeds: [u64; 3], refusal: Option<Refu
         assert!(stores.all().iter().zip(named).all(|(store, length)| zero(&store[..length])));
         return;
     }
-    let (first, second) = stores.cells.split_at(maps::cell_count(n));
-    let cells = [first, second, &stores.handles];
-    for ((wanted, seed), cells) in full::three_maps(keys, bucket).iter().zip(seeds).zip(cells) {
-        check_map(wanted, seed, cells);
+    for (map, wanted) in profile.maps(keys, bucket) {
+        let cells = match map {
+            1 => &stores.cells[..],
+            2 => &stores.cells[maps::cell_count(n)..],
+            _ => &stores.handles,
+        };
+        check_map(&wanted, seeds[map - 1], cells);
     }
-    let wanted = neighbour::wanted(keys);
-    assert_eq!(stores.left[..n], wanted.left);
-    assert_eq!(stores.right[..n], wanted.right);
-    check_lengths(keys, &stores.lengths);
+    let near = profile.neighbours(keys, bucket);
+    let (k, wanted) = (near.len(), neighbour::wanted(&near));
+    assert_eq!(stores.left[..k], wanted.left);
+    assert_eq!(stores.right[..k], wanted.right);
+    check_lengths(&near, &stores.lengths);
+    for (row, &key) in near.iter().enumerate() {
+        assert_eq!(stores.neighbour(&near, seeds[2], key).unwrap().before, row);
+    }
     for (row, &key) in keys.iter().enumerate() {
-        let outcome = stores.call(keys, &vec![0; n], bucket, [seeds[0], seeds[1]], key);
-        assert_eq!(outcome, Ok(Outcome::Planned(row)));
-        assert_eq!(stores.neighbour(keys, seeds[2], key).unwrap().before, row);
+        let bytes = vec![0; n];
+        let outcome = match profile {
+            Profile::Full => stores.call(keys, &bytes, bucket, [seeds[0], seeds[1]], key).unwrap(),
+            Profile::Slim => {
+                slim::ask(keys, &bytes, bucket, [seeds[0], seeds[2]], &stores, key).unwrap().outcome
+            }
+        };
+        assert_eq!(outcome, Outcome::Planned(row));
     }
 }
 
@@ -922,7 +991,7 @@ fn rowcheck_jams() -> usize {
             rowcheck::run((cases::input(bucket, keys, &[1]) + more).as_bytes())
         };
         for bucket in [2, 3, 256] {
-            let jammed = full::jammed(&expected(&keys, bucket, [255; 3]));
+            let jammed = full::jammed(&expected(Profile::Full, &keys, bucket, [255; 3]));
             let lines = format!("refused=5\njammed={jammed}\n");
             assert_eq!(printed(&bucket.to_string(), &keys, ""), lines);
         }

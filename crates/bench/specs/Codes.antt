@@ -7,6 +7,7 @@ use Rattle.refusals.specs.Numbers as build
 use Rattle.outcomes.specs.Outcomes as told
 use Rattle.callask.specs.Ask as call
 use Rattle.neighbour.specs.Ask as near
+use Rattle.slimask.specs.Ask as slim
 
 -- a refusal: 2^63, its number from bit 32 on, and what it names
 abbrev pub refusedCode : ℕ → ℕ → ℕ
@@ -39,7 +40,23 @@ callCode (call.refused number names) = refusedCode number names
 abbrev pub standsCode : Bool → ℕ
 standsCode stands = cond stands 1099511627776 0
 
--- a neighbour ask: the number before, the probes from bit 32 on, and whether x stands in the table
+-- a place: the number before, the probes from bit 32 on, and whether x stands in the table
+abbrev pub placeCode : (before probes : ℕ) (stands : Bool) → ℕ
+placeCode before probes stands = bitXor (bitXor before (probes * 2 ^ 32 % 2 ^ 64)) (standsCode stands)
+
+-- a neighbour ask: its place
 abbrev pub neighbourCode : near.NeighbourSaid → ℕ
-neighbourCode (near.place before probes stands) = bitXor (bitXor before (probes * 2 ^ 32 % 2 ^ 64)) (standsCode stands)
+neighbourCode (near.place before probes stands) = placeCode before probes stands
 neighbourCode (near.refused number names) = refusedCode number names
+
+-- an outcome beside a place: the row from bit 16 on, with bit 41 where it is withdrawn; or bit 42 alone, for absent
+abbrev pub besideCode : told.Told → ℕ
+besideCode (told.planned r) = r * 2 ^ 16 % 2 ^ 64
+besideCode (told.withdrawn r) = bitXor (r * 2 ^ 16 % 2 ^ 64) 2199023255552
+besideCode told.absent = 4398046511104
+
+-- a slim ask: its outcome beside its place among the delimiters. Neither reaches into the other: rows are below 32,768,
+-- and so are the delimiters before x, since a bucket has two rows or more
+abbrev pub slimCode : slim.SlimSaid → ℕ
+slimCode (slim.told o before probes stands) = bitXor (besideCode o) (placeCode before probes stands)
+slimCode (slim.refused number names) = refusedCode number names

@@ -8,15 +8,19 @@ ghost use Rattle.refusals.specs.Numbers.{number, names, saidByBuild};
 ghost use Rattle.outcomes.specs.Outcomes.{toldBy};
 ghost use Rattle.callask.specs.Ask.{callSays};
 ghost use Rattle.neighbour.specs.Ask.{neighbourSays};
-ghost use Rattle.stores.specs.Stores.{lent, seeds};
+ghost use Rattle.stores.specs.Stores.{lent, asked, seeds};
 ghost use Rattle.full.specs.Build.{FullBuilt};
+ghost use Rattle.slimask.specs.Ask.{slimSays};
+ghost use Rattle.slim.specs.Build.{SlimBuilt};
 ghost use Rattle.bench.specs.Codes.{refusedCode, buildCode, Coded, outcomeCode, callCode, neighbourCode};
-ghost use Rattle.bench.specs.Codes.{standsCode};
+ghost use Rattle.bench.specs.Codes.{standsCode, placeCode, besideCode, slimCode};
 use callask::CallAnswer;
 use neighbour::NeighbourAnswer;
+use neighbour::Place;
 use outcomes::Outcome;
 use refusals::Refusal;
 use refusals::Verdict;
+use slimask::SlimAnswer;
 
 fn coded(number: u64, named: u64) -> u64
     ensures { λ c. ⌜ c ≡ refusedCode number named ⌝ }
@@ -61,6 +65,23 @@ fn flag(stands: bool) -> u64
     0
 }
 
+fn placed(p: Place) -> u64
+    ensures { λ c. ⌜ c ≡ placeCode (p .before) (p .probes) (p .stands) ⌝ }
+{
+    (p.before as u64) ^ ((p.probes as u64) << 32) ^ flag(p.stands)
+}
+
+// An outcome beside a place.
+fn beside(o: Outcome) -> u64
+    ensures { λ c. ⌜ c ≡ besideCode (toldBy o) ⌝ }
+{
+    match o {
+        Outcome::Planned(row) => (row as u64) << 16,
+        Outcome::Withdrawn(row) => ((row as u64) << 16) ^ 0x200_0000_0000,
+        Outcome::Absent => 0x400_0000_0000,
+    }
+}
+
 #[no_mangle]
 pub extern "C" fn index_call_ask(
     keys: &[u64],
@@ -97,7 +118,7 @@ pub extern "C" fn index_neighbour_ask(
 {
     let a = neighbour::neighbour_ask(keys, seed3, handles, left, right, lengths, x);
     match a {
-        NeighbourAnswer::At(p) => (p.before as u64) ^ ((p.probes as u64) << 32) ^ flag(p.stands),
+        NeighbourAnswer::At(p) => placed(p),
         NeighbourAnswer::Refused(r) => refused(r),
     }
 }
@@ -130,6 +151,78 @@ pub extern "C" fn index_full_build(
         seed2,
         seed3,
         cells,
+        handles,
+        left,
+        right,
+        work,
+        lengths,
+    ))
+}
+
+#[no_mangle]
+pub extern "C" fn index_slim_ask(
+    keys: &[u64],
+    bytes: &[u8],
+    b: usize,
+    seed1: u64,
+    seed3: u64,
+    offsets: &[u16],
+    handles: &[u16],
+    left: &[u16],
+    right: &[u16],
+    lengths: &[u8],
+    x: u64,
+) -> u64
+    ensures { λ c. ⌜ c ≡ slimCode
+        (slimSays (now (keys .entry)) (now (bytes .entry)) b seed1 seed3
+        (asked (now (offsets .entry)) (now (handles .entry)) (now (left .entry)) (now (right .entry))
+        (now (lengths .entry))) x) ⌝ }
+{
+    let a = slimask::slim_ask(
+        keys,
+        bytes,
+        b,
+        seed1,
+        seed3,
+        offsets,
+        handles,
+        left,
+        right,
+        lengths,
+        x,
+    );
+    match a {
+        SlimAnswer::Told(o, p) => beside(o) ^ placed(p),
+        SlimAnswer::Refused(r) => refused(r),
+    }
+}
+
+#[no_mangle]
+pub extern "C" fn index_slim_build(
+    keys: &[u64],
+    b: usize,
+    seed1: u64,
+    seed3: u64,
+    offsets: &mut [u16],
+    handles: &mut [u16],
+    left: &mut [u16],
+    right: &mut [u16],
+    work: &mut [u16],
+    lengths: &mut [u8],
+) -> u64
+    ensures { λ c. ⌜ Coded (λ said. SlimBuilt (now (keys .entry)) b seed1 seed3
+        (lent (now (offsets .entry)) (now (handles .entry)) (now (left .entry)) (now (right .entry))
+        (now (work .entry)) (now (lengths .entry)))
+        said
+        (lent (now (offsets .exit)) (now (handles .exit)) (now (left .exit)) (now (right .exit)) (now (work .exit))
+        (now (lengths .exit)))) c ⌝ }
+{
+    verdict(slim::slim_build(
+        keys,
+        b,
+        seed1,
+        seed3,
+        offsets,
         handles,
         left,
         right,

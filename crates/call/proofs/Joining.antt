@@ -1,9 +1,9 @@
 -- Two maps in one store: what the builds of maps 1 and 2 leave, put together. Assumes nothing.
-use mathlib.Core.Path.{_≡_, refl, sym, ap, _∙_}
-use mathlib.Core.List.{List, _++_}
-use Prim.Native.Nat.{ℕ, _+_, _-_, _≤_, _<_}
+use mathlib.Core.Path.{_≡_, sym, ap, _∙_}
+use mathlib.Core.List.{List}
+use Prim.Native.Nat.{ℕ, _-_, _≤_}
 use native.Mathlib.Omega.{arith}
-use lib.ListN.{length, getD, take, drop, replicate, length-drop, drop-of-length-le}
+use lib.ListN.{length, getD, take, drop, length-drop, drop-of-length-le}
 use borrow.Rule.Slice.PartMut.{putMid}
 use lib.Seq.{drop-drop, length-take-le, getD-take}
 use Rattle.cells.specs.Cells.{cellCount, workCount}
@@ -17,16 +17,10 @@ use Rattle.items.specs.Items.{keyValues, prefixItems, bucketNumbers}
 use Rattle.items.proofs.Values.{length-prefixes}
 use Rattle.maps.specs.Built.{Built, Filled, Room}
 use Rattle.maps.proofs.Determined.{cells-beyond}
+use Rattle.maps.proofs.Rooms.{fewer-work}
 use Rattle.call.specs.Build.{CallFilled}
 use Rattle.call.specs.Inner.{Buildable, KeysBuilt, PrefixesBuilt}
 use Rattle.call.proofs.Parts.{part-is, from-part, before-part}
-
--- a map of fewer items has no more cells and takes no more work
-fewer-cells : (k n : ℕ) → k ≤ n → cellCount k ≤ cellCount n
-fewer-cells k n h = omega arith
-
-pub fewer-work : (k n : ℕ) → k ≤ n → workCount k ≤ workCount n
-fewer-work k n h = omega (arith, fewer-cells k n h)
 
 -- a filled map is one by its own cells alone
 filled-part : (seed : ℕ) (items values before after : List ℕ) → cellCount (length items) ≤ length before

@@ -1,6 +1,6 @@
 -- What the rule tells: a row only where the table's key there is the one asked, whatever the stores say. Assumes
 -- nothing.
-use mathlib.Core.Path.{_≡_, refl, sym}
+use mathlib.Core.Path.{_≡_, refl, sym, _∙_}
 use mathlib.Core.Bool.{Bool, true, false, cond}
 use mathlib.Core.List.{List}
 use Prim.Native.Nat.{ℕ, _/_, _≤_, _<_}
@@ -15,6 +15,7 @@ use Rattle.outcomes.specs.Inner.{HasByte}
 use Rattle.outcomes.specs.declared.Located.{Located}
 use Rattle.outcomes.specs.declared.Located.the-variants.{At, Nowhere}
 use Rattle.outcomes.proofs.Standing.{row-said, row-nowhere}
+use Rattle.outcomes.proofs.Marking.{found-byte}
 use Rattle.callask.specs.Ask.{ruleRow, ruleSays}
 
 past-length : (t : Bool) (at : Located) (q : ℕ) → cond t Nowhere at ≡ At q → at ≡ At q
@@ -43,5 +44,5 @@ module _ (keys : List ℕ) (x b seed₁ seed₂ : ℕ) (cells : List ℕ) where
   -- a row that is told has a byte, where there is one for each row
   pub rule-byte : (bytes : List ℕ) (at : Located) → length keys ≤ length bytes
       → at ≡ ruleSays keys b seed₁ seed₂ cells x → HasByte bytes at
-  rule-byte bytes (At q) long is = omega (arith, rule-said q (sym is) .0)
-  rule-byte bytes Nowhere long is = tt
+  rule-byte bytes at long is =
+      found-byte bytes at (λ q e. let t = rule-said q (sym is ∙ e) in omega (arith, t .0))

@@ -1,27 +1,23 @@
 -- What an ask says, by its tests. Assumes nothing.
-use mathlib.Core.Path.{_≡_, refl, sym, ap, _∙_}
-use mathlib.Core.Bool.{Bool, false, cond}
+use mathlib.Core.Path.{_≡_, sym, ap, _∙_}
 use mathlib.Core.List.{List, []}
 use Prim.Native.Nat.{ℕ, _+_, _*_, _/_, _%_, _≤_, _<_, zero-le}
 use native.Mathlib.Nat.{mul-le-mul}
 use native.Mathlib.Omega.{arith}
-use borrow.Author.Tests.{lt-ltb, le-ltb, ltb-false}
-use lib.Dec.{ltb}
+use borrow.Author.Tests.{lt-ltb, le-ltb}
 use lib.ListN.{length, drop}
-use Rattle.basics.proofs.Bools.{differ, past-test}
+use Rattle.basics.proofs.Bools.{differ}
 use Rattle.words.specs.Keys.{prefixItem}
 use Rattle.cells.specs.Cells.{cellCount, mapValue}
-use Rattle.tables.specs.Tables.{mostKeys}
 use Rattle.tables.specs.Delimiters.{buckets}
 use Rattle.stores.specs.Sizes.{shortStore, Fits, callSizes}
 use Rattle.stores.specs.Stores.{asked, sizesBeside}
 use Rattle.stores.specs.declared.Sizes.{Sizes}
-use Rattle.stores.proofs.Chains.{goes-on, refuses}
-use Rattle.stores.proofs.Judging.{none-short, all-fit}
+use Rattle.stores.proofs.Judging.{none-short, ask-short, ask-passes, ask-told}
 use Rattle.outcomes.specs.Outcomes.{Told, rowSays, marked}
 use Rattle.outcomes.specs.declared.Located.{Located}
 use Rattle.outcomes.specs.declared.Located.the-variants.{Nowhere}
-use Rattle.callask.specs.Ask.{CallSaid, outcome, refused, ruleRow, ruleSays, callSays}
+use Rattle.callask.specs.Ask.{outcome, refused, ruleRow, ruleSays, callSays}
 use Rattle.callask.specs.Inner.{Askable}
 
 -- bucket × B fits a word
@@ -39,17 +35,17 @@ asks-fit n b cells bytes is h = none-short (has cells bytes) (callSizes n b) (om
 pub one-outcome : {o o′ : Told} → outcome o ≡ outcome o′ → o ≡ o′
 one-outcome e = cc
 
--- a test of the chain that was passed
-test-told : (t : Bool) (k i : ℕ) (rest : CallSaid) (o : Told) → cond t (refused k i) rest ≡ outcome o
-    → (t ≡ false) × (rest ≡ outcome o)
-test-told t k i rest o = past-test t (refused k i) rest (λ e. differ (cc))
+-- no refusal is an outcome
+apart : (o : Told) (k i : ℕ) → refused k i ≡ outcome o → ⊥
+apart o k i e = differ (cc)
 
 module _ (keys bytes : List ℕ) (b seed₁ seed₂ : ℕ) (cells : List ℕ) (x : ℕ) where
   pub says-short : length keys ≤ 32768 → 2 ≤ b → b ≤ 256 → {short : ℕ}
       → short ≡ shortStore (has cells bytes) (callSizes (length keys) b) → 0 < short
       → refused 4 short ≡ callSays keys bytes b seed₁ seed₂ cells x
   unfolding callSays
-  says-short h l m is s = rw (← is) (sym (goes-on _ h (goes-on _ l (goes-on _ m (refuses _ _ s)))))
+  says-short few two most is h =
+      sym (ask-short refused (length keys) b _ _ _ (record { few = few; two = two; most = most }) is h)
 
   -- with room in both, the row's byte decides
   pub says-rule : Askable keys b cells → length keys ≤ length bytes
@@ -65,30 +61,17 @@ module _ (keys bytes : List ℕ) (b seed₁ seed₂ : ℕ) (cells : List ℕ) (x
         lengths = zero-le;
         bytes = long;
       } in
-      let enough : shortStore (has cells bytes) (callSizes (length keys) b) ≤ 0 =
-      omega (arith, all-fit (has cells bytes) (callSizes (length keys) b) fits) in
-      goes-on _ (A .few) (goes-on _ (A .two) (goes-on _ (A .most) (goes-on _ enough refl)))
+      ask-passes refused (length keys) b _ _ (record { few = A .few; two = A .two; most = A .most }) fits
 
   -- and where an outcome is told, there was room in both
   pub says-told : (o : Told) → callSays keys bytes b seed₁ seed₂ cells x ≡ outcome o
       → Askable keys b cells × (length keys ≤ length bytes) × (o ≡ marked bytes (ruleSays keys b seed₁ seed₂ cells x))
   unfolding callSays
   says-told o e =
-      let n = length keys in
-      let short = shortStore (has cells bytes) (callSizes n b) in
-      let t₁ = test-told (ltb mostKeys n) 1 0 _ o e in
-      let t₂ = test-told (ltb b 2) 2 0 _ o (t₁ .1) in
-      let t₃ = test-told (ltb 256 b) 2 0 _ o (t₂ .1) in
-      let t₄ = test-told (ltb 0 short) 4 short _ o (t₃ .1) in
-      let fits = asks-fit n b cells bytes refl (ltb-false 0 short (t₄ .0)) in (
-        record {
-          few = ltb-false mostKeys n (t₁ .0);
-          two = ltb-false b 2 (t₂ .0);
-          most = ltb-false 256 b (t₃ .0);
-          cellsLong = fits .cells;
-        },
-        fits .bytes,
-        sym (one-outcome (t₄ .1)),
+      let t = ask-told refused (length keys) b (has cells bytes) (callSizes (length keys) b) (apart o) e in (
+        record { few = t .0 .few; two = t .0 .two; most = t .0 .most; cellsLong = t .1 .cells },
+        t .1 .bytes,
+        sym (one-outcome (t .2)),
       )
 
   pub by-the-rule : {told : Told} {at : Located} → Askable keys b cells → length keys ≤ length bytes

@@ -7,10 +7,10 @@ use lib.ListN.{length, drop}
 use Rattle.refusals.specs.Numbers.{number, names}
 use Rattle.words.specs.Keys.{prefixItem}
 use Rattle.cells.specs.Cells.{cellCount, mapValue}
-use Rattle.tables.specs.Tables.{mostKeys}
 use Rattle.tables.specs.Delimiters.{buckets}
-use Rattle.stores.specs.Sizes.{shortStore, callSizes}
+use Rattle.stores.specs.Sizes.{callSizes}
 use Rattle.stores.specs.Stores.{asked, sizesBeside}
+use Rattle.stores.specs.Judged.{askRefused}
 use Rattle.outcomes.specs.Outcomes.{Told, rowSays, toldBy, marked}
 use Rattle.outcomes.specs.declared.Located.{Located}
 use Rattle.outcomes.specs.declared.Located.the-variants.{Nowhere}
@@ -41,12 +41,9 @@ ruleSays keys b seed₁ seed₂ cells x =
     cond (ltb 63 (mapValue cells (length keys) seed₁ x / 256)) Nowhere
     (rowSays keys (ruleRow keys b seed₁ seed₂ cells x) x)
 
--- the refusals before the rule, the lowest number first, 4 for the call cells (1) and then for the row bytes (7); and
--- what the row's byte makes of the row
+-- the refusals before the rule, 4 for the call cells (1) and then for the row bytes (7); and what the row's byte makes
+-- of the row
 unfoldable pub callSays : (keys bytes : List ℕ) → ℕ → ℕ → ℕ → List ℕ → ℕ → CallSaid
 callSays keys bytes b seed₁ seed₂ cells x =
-    let short = shortStore (sizesBeside (asked cells [] [] [] []) bytes) (callSizes (length keys) b) in
-    cond (ltb mostKeys (length keys)) (refused 1 0)
-    (cond (ltb b 2) (refused 2 0)
-    (cond (ltb 256 b) (refused 2 0)
-    (cond (ltb 0 short) (refused 4 short) (outcome (marked bytes (ruleSays keys b seed₁ seed₂ cells x))))))
+    askRefused refused (length keys) b (sizesBeside (asked cells [] [] [] []) bytes) (callSizes (length keys) b)
+    (outcome (marked bytes (ruleSays keys b seed₁ seed₂ cells x)))

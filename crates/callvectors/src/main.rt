@@ -1,9 +1,10 @@
 // Writes what the call index says of single keys, planned, withdrawn and absent, and digests of what it says over
 // stores that no build left (docs/VECTORS.md).
-mod told;
 mod unbuilt;
 
+use samplings::builds::Profile;
+
 fn main() {
-    told::print();
+    samplings::told::print(Profile::Full);
     unbuilt::print();
 }

@@ -4,16 +4,17 @@ use mathlib.Core.Path.{_≡_}
 use mathlib.Core.List.{List}
 use Prim.Native.Nat.{ℕ}
 use lib.ListN.{length}
-use Rattle.refusals.specs.Numbers.{BuildSaid, taken, refused, jammed}
+use Rattle.refusals.specs.Numbers.{BuildSaid}
 use Rattle.cells.specs.Memory.{cleared}
 use Rattle.tables.specs.Lengths.{callWork}
 use Rattle.stores.specs.Sizes.{fullSizes}
-use Rattle.stores.specs.Stores.{Stores, Seeds, sizesOf, clearedStores}
+use Rattle.stores.specs.Stores.{Stores, Seeds, sizesOf}
 use Rattle.stores.specs.Judged.{judged}
 use Rattle.items.specs.Items.{prefixItems, handleItems}
 use Rattle.jams.specs.Jam.{Jamless, LargestJam}
 use Rattle.call.specs.Build.{CallFilled}
 use Rattle.neighbour.specs.Build.{NeighbourFilled}
+use Rattle.verdicts.specs.Ended.{Ended}
 
 -- the first of refusals 1 to 4 that applies, over all stores together; `taken` if none does
 abbrev pub fullJudged : List ℕ → ℕ → Stores → BuildSaid
@@ -38,12 +39,9 @@ pub record FullFilled (keys : List ℕ) (b : ℕ) (s : Seeds) (S S′ : Stores) 
   pub neighbour : NeighbourFilled keys (s .three) S S′
   pub work : S′ .work ≡ cleared (callWork (length keys)) (S .work)
 
--- the full build: a refusal of 1 to 4 changes nothing; refusal 5 names the first jammed map, with the size of its
--- largest jam, and leaves all six stores 0 over their named lengths; otherwise both indexes are there
-pub data FullBuilt (keys : List ℕ) (b : ℕ) (s : Seeds) (S : Stores) (said : BuildSaid) (S′ : Stores) : Type 0 where
-  refusal : (number names : ℕ) → fullJudged keys b S ≡ refused number names → said ≡ refused number names → S′ ≡ S
-      → FullBuilt keys b s S said S′
-  jam : (map size : ℕ) → fullJudged keys b S ≡ taken → FirstJam keys b s map size → said ≡ jammed map size
-      → S′ ≡ clearedStores (fullSizes (length keys) b) S → FullBuilt keys b s S said S′
-  accepted : fullJudged keys b S ≡ taken → NoJams keys b s → said ≡ taken → FullFilled keys b s S S′
-      → FullBuilt keys b s S said S′
+-- the full build ends as every build does: refused with 1 to 4 and nothing changed, jammed and all six stores cleared,
+-- or accepted with both indexes there
+abbrev pub FullBuilt : (keys : List ℕ) (b : ℕ) (s : Seeds) (S : Stores) (said : BuildSaid) (S′ : Stores) → Type 0
+FullBuilt keys b s S said S′ =
+    Ended (fullJudged keys b S) (fullSizes (length keys) b) (FirstJam keys b s) (NoJams keys b s)
+    (FullFilled keys b s S) S said S′

@@ -6,20 +6,14 @@
 ghost use Rattle.refusals.specs.Numbers.{saidByBuild};
 ghost use Rattle.stores.specs.Stores.{lent, seeds};
 ghost use Rattle.full.specs.Build.{FullBuilt};
-ghost use Rattle.full.specs.Inner.{Ready, MapsBuilt};
+ghost use Rattle.full.specs.Inner.{FullReady, MapsBuilt};
 use call::build::build_keys;
 use call::build::build_prefixes;
 use neighbour::build::build_stores;
 use refusals::Verdict;
 use stores::Judged;
-use stores::Lend;
 use stores::Sizes;
-
-// All maps are there; or the first that has a jam, and the size of its largest jam.
-enum Maps {
-    Built,
-    Jammed { map: u8, size: usize },
-}
+use verdicts::Maps;
 
 // Maps 1, 2 and 3 with the bounds and the lengths, up to the first map that has a jam. After a jam the stores hold what
 // was written so far.
@@ -36,7 +30,8 @@ fn build_maps(
     work: &mut [u16],
     lengths: &mut [u8],
 ) -> Maps
-    requires { ⌜ Ready (now keys) b (lent (now cells) (now handles) (now left) (now right) (now work) (now lengths)) ⌝ }
+    requires { ⌜ FullReady (now keys) b
+        (lent (now cells) (now handles) (now left) (now right) (now work) (now lengths)) ⌝ }
     ensures { λ r. ⌜ MapsBuilt (now (keys .entry)) b (seeds seed1 seed2 seed3)
         (lent (now (cells .entry)) (now (handles .entry)) (now (left .entry)) (now (right .entry)) (now (work .entry))
         (now (lengths .entry)))
@@ -62,7 +57,7 @@ fn build_maps(
     Maps::Built
 }
 
-// Both indexes, once nothing else is refused: after a jam all stores are cleared, whichever map had it.
+// Both indexes, once nothing else is refused.
 fn build_all(
     keys: &[u64],
     b: usize,
@@ -76,7 +71,8 @@ fn build_all(
     work: &mut [u16],
     lengths: &mut [u8],
 ) -> Verdict
-    requires { ⌜ Ready (now keys) b (lent (now cells) (now handles) (now left) (now right) (now work) (now lengths)) ⌝ }
+    requires { ⌜ FullReady (now keys) b
+        (lent (now cells) (now handles) (now left) (now right) (now work) (now lengths)) ⌝ }
     ensures { λ r. ⌜ FullBuilt (now (keys .entry)) b (seeds seed1 seed2 seed3)
         (lent (now (cells .entry)) (now (handles .entry)) (now (left .entry)) (now (right .entry)) (now (work .entry))
         (now (lengths .entry)))
@@ -84,7 +80,7 @@ fn build_all(
         (lent (now (cells .exit)) (now (handles .exit)) (now (left .exit)) (now (right .exit)) (now (work .exit))
         (now (lengths .exit))) ⌝ }
 {
-    match build_maps(
+    let built = build_maps(
         keys,
         b,
         seed1,
@@ -96,14 +92,9 @@ fn build_all(
         right,
         work,
         lengths,
-    ) {
-        Maps::Built => Verdict::Taken,
-        Maps::Jammed { map, size } => {
-            let want = stores::full_sizes(keys.len(), b);
-            stores::clear_stores(want, cells, handles, left, right, work, lengths);
-            Verdict::Jammed { map, size }
-        }
-    }
+    );
+    let want = stores::full_sizes(keys.len(), b);
+    verdicts::settle(built, want, cells, handles, left, right, work, lengths)
 }
 
 // Builds both indexes of a table, or refuses with the lowest number that applies, over all stores together. The row
@@ -128,10 +119,9 @@ pub fn full_build(
         (lent (now (cells .exit)) (now (handles .exit)) (now (left .exit)) (now (right .exit)) (now (work .exit))
         (now (lengths .exit))) ⌝ }
 {
-    match stores::named_lengths(keys.len(), b) {
-        Lend::Refused(refusal) => Verdict::Refused(refusal),
-        Lend::Sizes(_) => {
-            // What a caller lends in all has the row bytes too; the build judges its own stores.
+    match stores::limits(keys.len(), b) {
+        Judged::Refused(refusal) => Verdict::Refused(refusal),
+        Judged::Passed => {
             let want = stores::full_sizes(keys.len(), b);
             let have = Sizes {
                 cells: cells.len(),

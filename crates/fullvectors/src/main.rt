@@ -1,11 +1,12 @@
 // Writes what the full build says, what it leaves in its stores, and digests of what both indexes then answer
 // (docs/VECTORS.md).
-mod answers;
-mod refused;
-mod verdicts;
+use samplings::answers;
+use samplings::builds::Profile;
+use samplings::refused;
+use samplings::verdicts;
 
 fn main() {
-    verdicts::print();
-    refused::print();
-    answers::print();
+    verdicts::print(Profile::Full);
+    refused::print(Profile::Full);
+    answers::print(Profile::Full);
 }

@@ -1,170 +1,124 @@
 -- The customer's demands, proved, but for demand 2 (Telling). Assumes nothing.
-use mathlib.Core.Path.{_≡_, sym, ap, _∙_}
-use mathlib.Core.Logic.{_⊎_, inl, inr, ⊎-elim, _↔_}
-use Prim.Native.Nat.{ℕ, _-_, _≤_, _<_}
+use mathlib.Core.Path.{_≡_, refl}
+use mathlib.Core.List.{List}
+use mathlib.Core.Logic.{inl, inr, ⊎-elim, Iff·trans}
+use Prim.Native.Nat.{ℕ, _<_}
 use native.Mathlib.Omega.{arith}
 use lib.ListN.{length}
-use Rattle.refusals.specs.Numbers.{BuildSaid, taken, refused, jammed, numberSaid, jamSaid}
-use Rattle.refusals.proofs.Naming.{not-taken, jam-not-taken, jam-not-refused}
-use Rattle.words.specs.Fat.{binaryDigits, done}
-use Rattle.words.proofs.Probing.{probes-from}
-use Rattle.tables.specs.Tables.{smaller, sharedByAll}
+use Rattle.stores.specs.Sizes.{fullSizes}
+use Rattle.stores.specs.Stores.{Seeds, sizesOf}
 use Rattle.stores.proofs.Judging.{one-to-four}
 use Rattle.items.specs.Items.{prefixItems, handleItems}
-use Rattle.splits.proofs.Parents.{length-first, length-split}
+use Rattle.jams.specs.Jam.{Jamless, LargestJam}
 use Rattle.jams.proofs.Jams.{jamless-not-jammed}
-use Rattle.jams.proofs.Largest.{largest-jammed, largest-some}
-use Rattle.walks.specs.Walk.{Walk, storeWalk}
-use Rattle.walks.proofs.Answering.{true-lengths}
-use Rattle.neighbour.specs.Ask.{standsAt}
-use Rattle.neighbour.proofs.Asking.{stands-iff, path-probes, ask-six}
-use Rattle.full.specs.Build.{in₁, in₂, in₃, refusal, jam, accepted}
-use Rattle.index.specs.Answers.{probesOf}
-use Rattle.index.specs.Demands.{Names, BuildRefusesJams, SizeIsTheLargest, SearchIsExact, SixAtMost}
+use Rattle.jams.proofs.Largest.{largest-is-there, largest-jammed, largest-some}
+use Rattle.neighbour.proofs.Asking.{ask-six}
+use Rattle.full.specs.Build.{FirstJam, in₁, in₂, in₃}
+use Rattle.full.proofs.Jamming.{first-jam-one, jam-not-none}
+use Rattle.index.specs.Demands.{BuildRefusesJams, SizeIsTheLargest, SearchIsExact, WalksAgree, SixAtMost}
 use Rattle.index.specs.Demands.{LengthsAreTrue, WalkIsUnchanged}
+use Rattle.index.proofs.Jamming.{not-jammed-jamless, named-jams, names-iff, taken-iff, five-iff}
 use Rattle.index.proofs.Accepted.{full-accepted, accepted-table, accepted-stored}
-use Rattle.index.proofs.Answering.{counts-answer, walks-agree}
+use Rattle.index.proofs.Searching.{stored-true, stored-unchanged, stored-agrees, searched}
+use Rattle.index.proofs.Answering.{counts-answer}
 
--- one map is named and no other
-never : {A : Type 0} {said : BuildSaid} {m p : ℕ} (m′ : ℕ) → said ≡ jammed m p → (m ≡ m′ → ⊥) → Names said m′ → A
-never m′ e apart f = let g = f .1 in absurd (apart (cc))
+-- by the map that has the first jam
+module _ (keys : List ℕ) (b : ℕ) (s : Seeds) where
+  by-map : {A : Type 0} {m p : ℕ} → FirstJam keys b s m p → (m ≡ 1 → LargestJam (s .one) keys p → A)
+      → (m ≡ 2 → Jamless (s .one) keys → LargestJam (s .two) (prefixItems b keys) p → A)
+      → (m ≡ 3 → Jamless (s .one) keys → Jamless (s .two) (prefixItems b keys)
+      → LargestJam (s .three) (handleItems keys) p → A) → A
+  by-map (in₁ L) f g h = f refl L
+  by-map (in₂ N L) f g h = g refl N L
+  by-map (in₃ N M L) f g h = h refl N M L
 
--- an accepted build names none, and neither do the other refusals
-none-named : {A : Type 0} {said : BuildSaid} (m : ℕ) → said ≡ taken → Names said m → A
-none-named m e f = jam-not-taken m (f .0) (f .1) e
+  at-one : {m p : ℕ} → m ≡ 1 → FirstJam keys b s m p → LargestJam (s .one) keys p
+  at-one e J = by-map J (λ f L. L) (λ f N L. absurd (omega arith)) (λ f N M L. absurd (omega arith))
 
-other-refusal : {A : Type 0} {said : BuildSaid} {k i : ℕ} (m : ℕ) → said ≡ refused k i → Names said m → A
-other-refusal {k = k} {i} m e f = jam-not-refused m (f .0) k i (f .1) e
+  at-two : {m p : ℕ} → m ≡ 2 → FirstJam keys b s m p
+      → Jamless (s .one) keys × LargestJam (s .two) (prefixItems b keys) p
+  at-two e J = by-map J (λ f L. absurd (omega arith)) (λ f N L. (N, L)) (λ f N M L. absurd (omega arith))
 
-one-two : _≡_ {A = ℕ} 1 2 → ⊥
-one-two e = omega arith
+  at-three : {m p : ℕ} → m ≡ 3 → FirstJam keys b s m p
+      → Jamless (s .one) keys × Jamless (s .two) (prefixItems b keys) × LargestJam (s .three) (handleItems keys) p
+  at-three e J = by-map J (λ f L. absurd (omega arith)) (λ f N L. absurd (omega arith)) (λ f N M L. (N, M, L))
 
-one-three : _≡_ {A = ℕ} 1 3 → ⊥
-one-three e = omega arith
-
-two-three : _≡_ {A = ℕ} 2 3 → ⊥
-two-three e = omega arith
-
-other : {m n : ℕ} → (m ≡ n → ⊥) → n ≡ m → ⊥
-other apart e = apart (sym e)
+  -- it is above 0
+  some-jam : (m p : ℕ) → FirstJam keys b s m p → 0 < p
+  some-jam m p J =
+      by-map J (λ f. largest-some (s .one) keys) (λ f N. largest-some (s .two) (prefixItems b keys))
+      (λ f N M. largest-some (s .three) (handleItems keys))
 
 -- demand 1
 pub build-refuses-jams : BuildRefusesJams
-build-refuses-jams keys b s S said S′ (refusal k i j e c) passed = not-taken k i j passed
-build-refuses-jams keys b s S said S′ (jam m p j (in₁ L) e c) passed =
-    let J = largest-jammed (s .one) keys L in (
-      ((λ f. J), (λ K. (p, e))),
-      (never 2 e one-two, (λ K. absurd (K .0 J))),
-      (never 3 e one-three, (λ K. absurd (K .0 J))),
-      (jam-not-taken 1 p e, (λ K. absurd (K .0 J))),
-    )
-build-refuses-jams keys b s S said S′ (jam m p j (in₂ N L) e c) passed =
-    let n = jamless-not-jammed (s .one) keys N in
-    let J = largest-jammed (s .two) (prefixItems b keys) L in (
-      (never 1 e (other one-two), (λ K. absurd (n K))),
-      ((λ f. (n, J)), (λ K. (p, e))),
-      (never 3 e two-three, (λ K. absurd (K .1 J))),
-      (jam-not-taken 2 p e, (λ K. absurd (K .1 J))),
-    )
-build-refuses-jams keys b s S said S′ (jam m p j (in₃ N M L) e c) passed =
-    let n = jamless-not-jammed (s .one) keys N in
-    let o = jamless-not-jammed (s .two) (prefixItems b keys) M in
-    let J = largest-jammed (s .three) (handleItems keys) L in (
-      (never 1 e (other one-three), (λ K. absurd (n K))),
-      (never 2 e (other two-three), (λ K. absurd (o (K .1)))),
-      ((λ f. (n, o, J)), (λ K. (p, e))),
-      (jam-not-taken 3 p e, (λ K. absurd (K .2 J))),
-    )
-build-refuses-jams keys b s S said S′ (accepted j N e F) passed =
-    let n = jamless-not-jammed (s .one) keys (N .one) in
-    let o = jamless-not-jammed (s .two) (prefixItems b keys) (N .two) in
-    let p = jamless-not-jammed (s .three) (handleItems keys) (N .three) in (
-      (none-named 1 e, (λ K. absurd (n K))),
-      (none-named 2 e, (λ K. absurd (o (K .1)))),
-      (none-named 3 e, (λ K. absurd (p (K .2)))),
-      ((λ f. (n, o, p)), (λ K. e)),
+build-refuses-jams keys b s S said S′ B passed =
+    let named = names-iff B passed (λ m p m′ p′. first-jam-one) (λ m p. jam-not-none) in
+    let two = prefixItems b keys in
+    let three = handleItems keys in (
+      Iff·trans (named 1) (
+        (λ K. largest-jammed (s .one) keys (at-one keys b s refl (K .1))),
+        (λ J. let L = largest-is-there (s .one) keys J in (L .0, in₁ (L .1))),
+      ),
+      Iff·trans (named 2) (
+        (λ K. let P = at-two keys b s refl (K .1) in
+            (jamless-not-jammed (s .one) keys (P .0), largest-jammed (s .two) two (P .1))),
+        (λ J. let L = largest-is-there (s .two) two (J .1) in
+            (L .0, in₂ (not-jammed-jamless (s .one) keys (J .0)) (L .1))),
+      ),
+      Iff·trans (named 3) (
+        (λ K. let P = at-three keys b s refl (K .1) in (
+          jamless-not-jammed (s .one) keys (P .0),
+          jamless-not-jammed (s .two) two (P .1),
+          largest-jammed (s .three) three (P .2),
+        )),
+        (λ J. let L = largest-is-there (s .three) three (J .2) in
+            (L .0, in₃ (not-jammed-jamless (s .one) keys (J .0)) (not-jammed-jamless (s .two) two (J .1)) (L .1))),
+      ),
+      Iff·trans (taken-iff B passed (λ m p. jam-not-none)) (
+        (λ N. (
+          jamless-not-jammed (s .one) keys (N .one),
+          jamless-not-jammed (s .two) two (N .two),
+          jamless-not-jammed (s .three) three (N .three),
+        )),
+        (λ J. record {
+          one = not-jammed-jamless (s .one) keys (J .0);
+          two = not-jammed-jamless (s .two) two (J .1);
+          three = not-jammed-jamless (s .three) three (J .2);
+        }),
+      ),
     )
 
--- request Five: what is said of a jam, of another refusal and of acceptance
-module _ {said : BuildSaid} where
-  five-named : {m p : ℕ} → said ≡ jammed m p → numberSaid said ≡ 5
-  five-named e = ap numberSaid e
-
-  some-size : {m p : ℕ} → said ≡ jammed m p → 0 < p → (0 < jamSaid said) ↔ (numberSaid said ≡ 5)
-  some-size e some = ((λ h. five-named e), (λ five. omega (arith, ap jamSaid e)))
-
-  -- no map is named, and the number is another
-  none-sized : ((m : ℕ) → Names said m → ⊥) → jamSaid said ≡ 0 → (numberSaid said ≡ 5 → ⊥)
-      → ((numberSaid said ≡ 5) ↔ (Names said 1 ⊎ (Names said 2 ⊎ Names said 3)))
-      × ((0 < jamSaid said) ↔ (numberSaid said ≡ 5))
-  none-sized none zero other = (
-    ((λ five. absurd (other five)), (λ o. absurd (⊎-elim (none 1) (⊎-elim (none 2) (none 3)) o))),
-    ((λ h. absurd (omega arith)), (λ five. absurd (other five))),
-  )
-
+-- request Five
 pub size-is-the-largest : SizeIsTheLargest
-size-is-the-largest keys b s S said S′ (refusal k i j e c) =
-    let none = none-sized (λ m. other-refusal m e) (ap jamSaid e)
-    (λ five. omega (arith, ap numberSaid e, one-to-four _ _ _ _ k i j .1)) in
-    (other-refusal 1 e, other-refusal 2 e, other-refusal 3 e, none .0, none .1)
-size-is-the-largest keys b s S said S′ (jam m p j (in₁ L) e c) = (
-  (λ f. rw (ap jamSaid e) L),
-  never 2 e one-two,
-  never 3 e one-three,
-  ((λ five. inl (p, e)), (λ o. five-named e)),
-  some-size e (largest-some (s .one) keys L),
-)
-size-is-the-largest keys b s S said S′ (jam m p j (in₂ N L) e c) = (
-  never 1 e (other one-two),
-  (λ f. rw (ap jamSaid e) L),
-  never 3 e two-three,
-  ((λ five. inr (inl (p, e))), (λ o. five-named e)),
-  some-size e (largest-some (s .two) (prefixItems b keys) L),
-)
-size-is-the-largest keys b s S said S′ (jam m p j (in₃ N M L) e c) = (
-  never 1 e (other one-three),
-  never 2 e (other two-three),
-  (λ f. rw (ap jamSaid e) L),
-  ((λ five. inr (inr (p, e))), (λ o. five-named e)),
-  some-size e (largest-some (s .three) (handleItems keys) L),
-)
-size-is-the-largest keys b s S said S′ (accepted j N e F) =
-    let none = none-sized (λ m. none-named m e) (ap jamSaid e) (λ five. omega (arith, ap numberSaid e)) in
-    (none-named 1 e, none-named 2 e, none-named 3 e, none .0, none .1)
-
--- 63 - L has at most six binary digits
-digits-six : (L : ℕ) → binaryDigits (63 - L) ≤ 6
-digits-six L =
-    let same : 63 - (63 - (63 - L)) ≡ 63 - L = omega arith in
-    rw same at (probes-from (63 - (63 - L)) (omega arith) done .1)
+size-is-the-largest keys b s S said S′ B =
+    let five = five-iff B (one-to-four keys b (sizesOf S) (fullSizes (length keys) b)) (some-jam keys b s) in (
+      (λ f. at-one keys b s refl (named-jams B 1 f)),
+      (λ f. at-two keys b s refl (named-jams B 2 f) .1),
+      (λ f. at-three keys b s refl (named-jams B 3 f) .2),
+      Iff·trans (five .0) (
+        (λ f. by-map keys b s (named-jams B (f .0) (f .1)) (λ e L. inl (rw e at (f .1)))
+            (λ e N L. inr (inl (rw e at (f .1)))) (λ e N M L. inr (inr (rw e at (f .1))))),
+        ⊎-elim (λ f. (1, f)) (⊎-elim (λ f. (2, f)) (λ f. (3, f))),
+      ),
+      five .1,
+    )
 
 -- request Six
 pub lengths-are-true : LengthsAreTrue
-lengths-are-true keys b s S S′ B =
-    let is = accepted-stored (full-accepted B) .lengths-are in
-    (λ some. is 0 some ∙ length-first keys, λ m h l. is m l ∙ length-split keys m h)
+lengths-are-true keys b s S S′ B = stored-true keys (s .three) S′ (accepted-stored (full-accepted B))
 
 pub walk-is-unchanged : WalkIsUnchanged
-unfolding storeWalk
-walk-is-unchanged keys b s S S′ B x = true-lengths keys x _ _ _ _ (lengths-are-true keys b s S S′ B .1)
+walk-is-unchanged keys b s S S′ B = stored-unchanged keys (s .three) S′ (accepted-stored (full-accepted B))
 
 -- demand 3
 pub search-is-exact : SearchIsExact
-search-is-exact keys b s S S′ w two B x hx =
-    let T = accepted-table (full-accepted B) w in (
-      probesOf keys x,
-      (
-        standsAt keys x (smaller keys x),
-        record {
-          says = counts-answer B w x;
-          counted = ap (λ (v : Walk). length (v .probed))
-              (sym (walks-agree keys b s S S′ w B x) ∙ walk-is-unchanged keys b s S S′ B x);
-          few = path-probes keys T x;
-          six = digits-six (sharedByAll keys);
-          where-it-stands = stands-iff keys T x;
-        },
-      ),
-    )
+search-is-exact keys b s S S′ w two B x h =
+    let A = full-accepted B in
+    searched keys (s .three) S′ (accepted-stored A) (accepted-table A w) x (counts-answer B w x)
+
+pub walks-agree : WalksAgree
+walks-agree keys b s S S′ w B =
+    let A = full-accepted B in stored-agrees keys (s .three) S′ (accepted-stored A) (accepted-table A w)
 
 pub six-at-most : SixAtMost
 six-at-most keys seed S x before probes stands e =

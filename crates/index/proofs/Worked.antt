@@ -7,14 +7,19 @@ use Prim.Native.Nat.{ℕ, _≤_}
 use native.Mathlib.Omega.{arith}
 use lib.Count.{leadingZeros}
 use lib.ListN.{length, getD}
+use Rattle.refusals.specs.Numbers.{taken}
 use Rattle.words.specs.Fat.{fattestFrom}
 use Rattle.words.specs.Mix.{xorshift, mixOf}
 use Rattle.cells.specs.Cells.{cellOf}
 use Rattle.tables.specs.Tables.{keyAt, Table, listed, count, smaller, sharedWith, sharedByAll}
+use Rattle.tables.specs.Delimiters.{delimiters}
 use Rattle.tables.specs.Buckets.{bucketLength}
+use Rattle.tables.proofs.Delimiting.{length-delimiters}
 use Rattle.tables.proofs.Rising.{table-no-fall}
-use Rattle.stores.specs.Sizes.{fullSizes}
-use Rattle.stores.specs.Stores.{Seeds, seeds, sizesOf}
+use Rattle.stores.specs.Sizes.{Fits, fullSizes}
+use Rattle.stores.specs.Stores.{Stores, Seeds, seeds, sizesOf}
+use Rattle.stores.specs.Judged.{judged}
+use Rattle.stores.specs.declared.Sizes.{Sizes}
 use Rattle.stores.proofs.Judging.{passed-judged}
 use Rattle.splits.specs.Splits.{left, right, rootTo, parentLen, handleLen}
 use Rattle.splits.specs.Splits.{handleItem, handleSplit, leftEntry, rightEntry}
@@ -29,10 +34,14 @@ use Rattle.walks.specs.Walk.{Walk, accepted, descend, decide, walk, pathTo, pat
 use Rattle.walks.proofs.Testing.{tableb, table-by}
 use Rattle.neighbour.specs.Ask.{standsAt}
 use Rattle.full.specs.Build.{NoJams}
+use Rattle.slimstores.specs.Sizes.{slimBuildSizes}
+use Rattle.slim.specs.Build.{SlimJamless}
 use Rattle.index.specs.Answers.{probesOf}
 use Rattle.index.specs.Worked.{eleven, three, Gives, ProbesAt, TakesSeeds, SeedsAreTaken, worked, AllHold}
-use Rattle.index.proofs.Answering.{counts-answer, walks-agree}
-use Rattle.index.proofs.Demands.{build-refuses-jams}
+use Rattle.index.specs.Slim.{SlimTakesSeeds, SlimSeedsAreTaken}
+use Rattle.index.proofs.Answering.{counts-answer}
+use Rattle.index.proofs.Demands.{build-refuses-jams, walks-agree}
+use Rattle.index.proofs.Slim.{slim-refuses-jams}
 
 -- what an ask says over every store of an accepted build
 gives : (T : List ℕ) → Table T → (x : ℕ) → Gives T x (smaller T x) (probesOf T x) (standsAt T x (smaller T x))
@@ -41,14 +50,18 @@ gives T t x b s S S′ B = counts-answer B (t .fits) x
 probes-at : (T : List ℕ) → Table T → (x : ℕ) → ProbesAt T x (pathWalk T x .probed)
 probes-at T t x b s S S′ B = ap (λ (v : Walk). v .probed) (walks-agree T b s S S′ (t .fits) B x)
 
+-- a table within its limits and stores of the named lengths are not refused
+none-refused : (T : List ℕ) (b : ℕ) → Table T → length T ≤ 32768 → 2 ≤ b → b ≤ 256 → (S : Stores) (w : Sizes)
+    → Fits (sizesOf S) w → judged T b (sizesOf S) w ≡ taken
+none-refused T b t few two most S w fits =
+    passed-judged T b (sizesOf S) w
+    (record { few = few; two = two; most = most; rises = table-no-fall T t; fits = fits })
+
 -- without a jam the build takes the seeds
 takes : (T : List ℕ) (b : ℕ) (s : Seeds) → Table T → length T ≤ 32768 → 2 ≤ b → b ≤ 256 → NoJams T b s
     → TakesSeeds T b s
 takes T b s t few two most N S said S′ fits B =
-    build-refuses-jams T b s S said S′ B
-    (passed-judged T b (sizesOf S) (fullSizes (length T) b)
-    (record { few = few; two = two; most = most; rises = table-no-fall T t; fits = fits }))
-    .3 .1
+    build-refuses-jams T b s S said S′ B (none-refused T b t few two most S (fullSizes (length T) b) fits) .3 .1
     ((λ J. N .one (J .0) (J .1)), (λ J. N .two (J .0) (J .1)), (λ J. N .three (J .0) (J .1)))
 
 three-table : Table three
@@ -114,6 +127,44 @@ pub seeds-are-taken : SeedsAreTaken
 seeds-are-taken = (
   takes eleven 3 (seeds 0 0 0) eleven-table (omega arith) (omega arith) (omega arith) eleven-jamless,
   (λ seed. takes three 2 (seeds 0 0 seed) three-table (omega arith) (omega arith) (omega arith) (three-jamless seed)),
+)
+
+-- and the slim build takes both: of the delimiters of the eleven keys there are two handles, and of those of the three
+-- none
+slimHandles : List ℕ
+slimHandles = 2882303761517117440 ∷ 2774217370460225536 ∷ []
+
+slim-handles : handleItems (delimiters 3 eleven) ≡ slimHandles
+unfolding slimHandles delimiters handleItems handleItem handleSplit leadingZeros fattestFrom left right rootTo parentLen handleLen listed count
+slim-handles = refl
+
+slim-takes : (T : List ℕ) (b seed₁ seed₃ : ℕ) → Table T → length T ≤ 32768 → 2 ≤ b → b ≤ 256
+    → SlimJamless T b seed₁ seed₃ → SlimTakesSeeds T b seed₁ seed₃
+slim-takes T b seed₁ seed₃ t few two most N S said S′ fits B =
+    slim-refuses-jams T b seed₁ seed₃ S said S′ B .1
+    (none-refused T b t few two most S (slimBuildSizes (length T) b) fits)
+    .2 .1
+    ((λ J. N .one (J .0) (J .1)), (λ J. N .three (J .0) (J .1)))
+
+eleven-slim : SlimJamless eleven 3 0 0
+unfolding slimHandles allBelow touchb live sizeOf cellOf mixOf xorshift
+eleven-slim = record {
+  one = eleven-jamless .one;
+  three = rw slim-handles (peeled 0 slimHandles (0 ∷ 1 ∷ []) (0 ∷ 2 ∷ []) refl);
+}
+
+three-slim : (seed : ℕ) → SlimJamless three 2 0 seed
+three-slim seed = record {
+  one = three-jamless seed .one;
+  three =
+      one-item-never-jams seed (handleItems (delimiters 2 three))
+      (omega (arith, length-handles (delimiters 2 three), length-delimiters 2 three));
+}
+
+pub slim-seeds-are-taken : SlimSeedsAreTaken
+slim-seeds-are-taken = (
+  slim-takes eleven 3 0 0 eleven-table (omega arith) (omega arith) (omega arith) eleven-slim,
+  (λ seed. slim-takes three 2 0 seed three-table (omega arith) (omega arith) (omega arith) (three-slim seed)),
 )
 
 of-three : (x : ℕ) → Gives three x (smaller three x) (probesOf three x) (standsAt three x (smaller three x))

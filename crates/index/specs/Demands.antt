@@ -1,4 +1,5 @@
--- The customer's demands on the build and the asks, in his order. proofs/{Demands,Telling,Answering} prove them.
+-- The customer's demands on the build and the asks, in his order. proofs/{Demands,Telling} prove them. What is said of
+-- any index or any rising list here is said of the slim profile in specs/Slim.
 use mathlib.Core.Path.{_≡_}
 use mathlib.Core.Bool.{Bool, true}
 use mathlib.Core.List.{List}
@@ -12,8 +13,8 @@ use Rattle.tables.specs.Tables.{keyAt, smaller, sharedByAll}
 use Rattle.stores.specs.Stores.{Stores, Seeds}
 use Rattle.items.specs.Items.{prefixItems, handleItems}
 use Rattle.jams.specs.Jam.{Jammed, LargestJam}
-use Rattle.outcomes.specs.Outcomes.{planned, withdrawn, absent}
-use Rattle.callask.specs.Ask.{CallSaid, outcome}
+use Rattle.outcomes.specs.Outcomes.{Told, planned, withdrawn, absent}
+use Rattle.callask.specs.Ask.{outcome}
 use Rattle.walks.specs.Walk.{pathWalk}
 use Rattle.neighbour.specs.Ask.{place}
 use Rattle.full.specs.Build.{fullJudged, FullBuilt}
@@ -51,15 +52,19 @@ SizeIsTheLargest =
     × ((numberSaid said ≡ 5) ↔ (Names said 1 ⊎ (Names said 2 ⊎ Names said 3)))
     × ((0 < jamSaid said) ↔ (numberSaid said ≡ 5))
 
--- Demand 2, as request Eight reads it: what is said of x gives a row as planned exactly if x stands there and the row's
--- byte is zero, as withdrawn exactly if x stands there and the byte isn't zero; and x is absent exactly if it stands in
--- no row
-pub record Tells (keys bytes : List ℕ) (x : ℕ) (said : CallSaid) : Type 0 where
+-- Demand 2, as request Eight reads it, of an ask on x, where `says` holds of the outcome that it tells: it gives a row
+-- as planned exactly if x stands there and the row's byte is zero, as withdrawn exactly if x stands there and the byte
+-- isn't zero; and x is absent exactly if it stands in no row
+pub record Tells (keys bytes : List ℕ) (x : ℕ) (says : Told → Type 0) : Type 0 where
   pub as-planned : (r : ℕ)
-      → (said ≡ outcome (planned r)) ↔ ((r < length keys) × (keyAt keys r ≡ x) × (getD bytes r 0 ≡ 0))
+      → says (planned r) ↔ ((r < length keys) × (keyAt keys r ≡ x) × (getD bytes r 0 ≡ 0))
   pub as-withdrawn : (r : ℕ)
-      → (said ≡ outcome (withdrawn r)) ↔ ((r < length keys) × (keyAt keys r ≡ x) × (getD bytes r 0 ≡ 0 → ⊥))
-  pub as-absent : (said ≡ outcome absent) ↔ NotIn x keys
+      → says (withdrawn r) ↔ ((r < length keys) × (keyAt keys r ≡ x) × (getD bytes r 0 ≡ 0 → ⊥))
+  pub as-absent : says absent ↔ NotIn x keys
+
+-- what the call index tells of x over stores
+abbrev pub CallTold : (keys bytes : List ℕ) → ℕ → Seeds → Stores → ℕ → Told → Type 0
+CallTold keys bytes b s S x t = callOver keys bytes b s S x ≡ outcome t
 
 -- so it is after an accepted build, asked with its own inputs and any byte for each row: the build has not seen the
 -- bytes, and they may be others at each ask
@@ -67,14 +72,14 @@ abbrev pub CallTells : Type 0
 CallTells =
     (keys : List ℕ) (b : ℕ) (s : Seeds) (S S′ : Stores) → Words keys → FullBuilt keys b s S taken S′
     → (bytes : List ℕ) → length keys ≤ length bytes → (x : ℕ) → x < 2 ^ 64
-    → Tells keys bytes x (callOver keys bytes b s S′ x)
+    → Tells keys bytes x (CallTold keys bytes b s S′ x)
 
 -- where no run is withdrawn, a planned key gets its sorted row ..
 abbrev pub PlannedGetsItsRow : Type 0
 PlannedGetsItsRow =
     (keys : List ℕ) (b : ℕ) (s : Seeds) (S S′ : Stores) → Words keys → FullBuilt keys b s S taken S′
     → (bytes : List ℕ) → length keys ≤ length bytes → ((r : ℕ) → r < length keys → getD bytes r 0 ≡ 0)
-    → (r : ℕ) → r < length keys → callOver keys bytes b s S′ (keyAt keys r) ≡ outcome (planned r)
+    → (r : ℕ) → r < length keys → CallTold keys bytes b s S′ (keyAt keys r) (planned r)
 
 -- .. 0 for the smallest: the row of a key, withdrawn or not, is the number of smaller keys
 abbrev pub RowsAreSorted : Type 0
@@ -87,59 +92,68 @@ abbrev pub OthersAreAbsent : Type 0
 OthersAreAbsent =
     (keys : List ℕ) (b : ℕ) (s : Seeds) (S S′ : Stores) → FullBuilt keys b s S taken S′
     → (bytes : List ℕ) → length keys ≤ length bytes
-    → (x : ℕ) → x < 2 ^ 64 → NotIn x keys → callOver keys bytes b s S′ x ≡ outcome absent
+    → (x : ℕ) → x < 2 ^ 64 → NotIn x keys → CallTold keys bytes b s S′ x absent
 
 -- a row is told, one way or the other
-abbrev pub InRow : CallSaid → ℕ → Type 0
-InRow said r = (said ≡ outcome (planned r)) ⊎ (said ≡ outcome (withdrawn r))
+abbrev pub InRow : (Told → Type 0) → ℕ → Type 0
+InRow says r = says (planned r) ⊎ says (withdrawn r)
 
 -- whatever the table and the stores hold, a row is told only of the one key that stands there; so after an accepted
 -- build rows and keys correspond one to one
 abbrev pub OneKeyForEachRow : Type 0
 OneKeyForEachRow =
-    (keys bytes : List ℕ) (b : ℕ) (s : Seeds) (S : Stores) (x r : ℕ) → InRow (callOver keys bytes b s S x) r
+    (keys bytes : List ℕ) (b : ℕ) (s : Seeds) (S : Stores) (x r : ℕ) → InRow (CallTold keys bytes b s S x) r
     → (r < length keys) × (keyAt keys r ≡ x)
+
+-- a row is told of x, as withdrawn exactly if its byte isn't zero
+abbrev pub ByItsByte : List ℕ → (Told → Type 0) → ℕ → Type 0
+ByItsByte bytes says r = InRow says r × (says (withdrawn r) ↔ (getD bytes r 0 ≡ 0 → ⊥))
 
 -- a withdrawn key keeps its row: whatever the table and the stores hold, a key that was told in a row stays in it under
 -- any other n bytes or more, and is told as withdrawn exactly if the byte there isn't zero
 abbrev pub WithdrawnKeepsItsRow : Type 0
 WithdrawnKeepsItsRow =
     (keys bytes bytes′ : List ℕ) (b : ℕ) (s : Seeds) (S : Stores) (x r : ℕ)
-    → InRow (callOver keys bytes b s S x) r → length keys ≤ length bytes′
-    → InRow (callOver keys bytes′ b s S x) r
-    × ((callOver keys bytes′ b s S x ≡ outcome (withdrawn r)) ↔ (getD bytes′ r 0 ≡ 0 → ⊥))
+    → InRow (CallTold keys bytes b s S x) r → length keys ≤ length bytes′
+    → ByItsByte bytes′ (CallTold keys bytes′ b s S x) r
 
 -- monotone hashing, as Belazzougui, Boldi, Pagh and Vigna define it: the rows of the keys, withdrawn or not, keep their
 -- order
 abbrev pub Monotone : Type 0
 Monotone =
     (keys : List ℕ) (b : ℕ) (s : Seeds) (S S′ : Stores) → Words keys → FullBuilt keys b s S taken S′
-    → (bytes bytes′ : List ℕ) (x y i j : ℕ) → InRow (callOver keys bytes b s S′ x) i
-    → InRow (callOver keys bytes′ b s S′ y) j → (x < y) ↔ (i < j)
+    → (bytes bytes′ : List ℕ) (x y i j : ℕ) → InRow (CallTold keys bytes b s S′ x) i
+    → InRow (CallTold keys bytes′ b s S′ y) j → (x < y) ↔ (i < j)
 
--- Demand 3: over the stores that an accepted build left for a table of two or more keys, the search gives for any
--- 64-bit key the exact number of smaller table keys, and whether it stands in the table; the reported count is the
--- number of probes in document 01's walk over those stores; and with L the leading bits that all table keys share it is
--- at most the number of binary digits of 63 - L, which is six at most
-pub record Searched (keys : List ℕ) (seed : ℕ) (S : Stores) (x probes : ℕ) (stands : Bool) : Type 0 where
-  pub says : neighbourOver keys S seed x ≡ place (smaller keys x) probes stands
-  pub counted : probes ≡ length (documentWalk keys S seed x .probed)
-  pub few : probes ≤ binaryDigits (63 - sharedByAll keys)
-  pub six : binaryDigits (63 - sharedByAll keys) ≤ 6
-  pub where-it-stands : (stands ≡ true) ↔ ((r : ℕ) × (r < length keys) × (keyAt keys r ≡ x))
+-- Demand 3, of a search for x over stores and the rising list T that is its table, where `says` holds of the number
+-- before, the probe count and whether x stands in T that it gives: it gives the exact number of smaller keys of T; the
+-- reported count is the number of probes in document 01's walk over those stores; and with L the leading bits that all
+-- keys of T share it is at most the number of binary digits of 63 - L, which is six at most
+pub record Searched (T : List ℕ) (seed : ℕ) (S : Stores) (x : ℕ) (says : (before probes : ℕ) → Bool → Type 0)
+    (probes : ℕ) (stands : Bool) : Type 0 where
+  pub exact : says (smaller T x) probes stands
+  pub counted : probes ≡ length (documentWalk T S seed x .probed)
+  pub few : probes ≤ binaryDigits (63 - sharedByAll T)
+  pub six : binaryDigits (63 - sharedByAll T) ≤ 6
+  pub where-it-stands : (stands ≡ true) ↔ ((r : ℕ) × (r < length T) × (keyAt T r ≡ x))
 
+-- so it is over the stores that an accepted build left for a table of two or more keys, for any 64-bit key
 abbrev pub SearchIsExact : Type 0
 SearchIsExact =
     (keys : List ℕ) (b : ℕ) (s : Seeds) (S S′ : Stores) → Words keys → 2 ≤ length keys → FullBuilt keys b s S taken S′
     → (x : ℕ) → x < 2 ^ 64
-    → (probes : ℕ) × ((stands : Bool) × Searched keys (s .three) S′ x probes stands)
+    → (probes : ℕ) × ((stands : Bool)
+    × Searched keys (s .three) S′ x (λ c p t. neighbourOver keys S′ (s .three) x ≡ place c p t) probes stands)
 
--- after an accepted build the walk over the stores is the walk over the table alone: the same lengths probed, the same
--- node, the same answer
+-- the walk over stores is the walk over the table T alone: the same lengths probed, the same node, the same answer
+abbrev pub WalksByTable : List ℕ → ℕ → Stores → Type 0
+WalksByTable T seed S = (x : ℕ) → walkOver T S seed x ≡ pathWalk T x
+
+-- so it is after an accepted build
 abbrev pub WalksAgree : Type 0
 WalksAgree =
     (keys : List ℕ) (b : ℕ) (s : Seeds) (S S′ : Stores) → Words keys → FullBuilt keys b s S taken S′
-    → (x : ℕ) → walkOver keys S′ (s .three) x ≡ pathWalk keys x
+    → WalksByTable keys (s .three) S′
 
 -- and whatever the stores hold, no search reports more than six probes
 abbrev pub SixAtMost : Type 0
@@ -147,17 +161,24 @@ SixAtMost =
     (keys : List ℕ) (seed : ℕ) (S : Stores) (x before probes : ℕ) (stands : Bool)
     → neighbourOver keys S seed x ≡ place before probes stands → probes ≤ 6
 
--- Request Six: where a build accepts, the stored lengths are true to the table: entry 0 is 0, and entry m is the number
--- of leading bits that rows m - 1 and m share
+-- Request Six: the stored lengths are true to the table T: entry 0 is 0, and entry m is the number of leading bits that
+-- rows m - 1 and m share
+abbrev pub TrueTo : List ℕ → Stores → Type 0
+TrueTo T S =
+    (0 < length T → getD (S .lengths) 0 0 ≡ 0)
+    × ((m : ℕ) → 0 < m → m < length T → getD (S .lengths) m 0 ≡ sharedBits (keyAt T (m - 1)) (keyAt T m))
+
+-- so they are where a build accepts
 abbrev pub LengthsAreTrue : Type 0
 LengthsAreTrue =
-    (keys : List ℕ) (b : ℕ) (s : Seeds) (S S′ : Stores) → FullBuilt keys b s S taken S′
-    → (0 < length keys → getD (S′ .lengths) 0 0 ≡ 0)
-    × ((m : ℕ) → 0 < m → m < length keys → getD (S′ .lengths) m 0 ≡ sharedBits (keyAt keys (m - 1)) (keyAt keys m))
+    (keys : List ℕ) (b : ℕ) (s : Seeds) (S S′ : Stores) → FullBuilt keys b s S taken S′ → TrueTo keys S′
 
--- so the walk that reads them is the walk that works each length out from the table: the same lengths probed, the same
+-- and the walk that reads them is the walk that works each length out from the table: the same lengths probed, the same
 -- node, the same answer
+abbrev pub WalksUnchanged : List ℕ → ℕ → Stores → Type 0
+WalksUnchanged T seed S = (x : ℕ) → walkOver T S seed x ≡ documentWalk T S seed x
+
 abbrev pub WalkIsUnchanged : Type 0
 WalkIsUnchanged =
     (keys : List ℕ) (b : ℕ) (s : Seeds) (S S′ : Stores) → FullBuilt keys b s S taken S′
-    → (x : ℕ) → walkOver keys S′ (s .three) x ≡ documentWalk keys S′ (s .three) x
+    → WalksUnchanged keys (s .three) S′

@@ -1,5 +1,6 @@
 -- What is stated of the entries beyond their contracts: what they answer, from the table and the row bytes alone; the
--- customer's demands; and the worked cases of document 01.
+-- customer's demands; the worked cases of document 01; and the demands on the slim profile.
 pub mod Answers
 pub mod Demands
 pub mod Worked
+pub mod Slim

@@ -10,7 +10,7 @@ use Rattle.tables.proofs.Rising.{keys-above}
 use Rattle.tables.proofs.Delimiting.{delimiters-table}
 use Rattle.tables.proofs.Bucketing.{prefixes-differ}
 use Rattle.splits.proofs.Handles.{items-differ}
-use Rattle.items.specs.declared.Items.the-variants.{Keys, Prefixes, Handles}
+use Rattle.items.specs.declared.Items.the-variants.{Keys, Prefixes, Handles, Offsets}
 use Rattle.items.specs.Items.{prefixItems, handleItems, itemsOf}
 use Rattle.items.specs.Vouched.{Distinct, PrefixesDistinct, ItemsDistinct}
 use Rattle.items.proofs.Values.{length-prefixes, prefix-is}
@@ -48,3 +48,4 @@ items-distinct Keys b T left right k = keys-distinct T (k .source .table)
 items-distinct Prefixes b T left right k = prefixes-distinct b T (k .source)
 items-distinct Handles b T left right k =
     handles-distinct (delimiters b T) (delimiters-table b T (k .source .bucketed .some) (k .source .table))
+items-distinct Offsets b T left right k = keys-distinct T (k .source .table)

@@ -1,4 +1,5 @@
--- Document 01, "Call index" and "Neighbour index": the items of maps 1, 2 and 3 and their values, in number order.
+-- Document 01, "Call index" and "Neighbour index", and request One: the items of maps 1, 2 and 3, and of map 1 of the
+-- slim profile, and their values, in number order.
 use mathlib.Core.Path.{_≡_}
 use mathlib.Core.List.{List}
 use Prim.Native.Nat.{ℕ, _+_, _-_, _*_, _/_, _%_, _≤_, _<_}
@@ -8,7 +9,7 @@ use Rattle.tables.specs.Delimiters.{buckets, delimiters, Bucketed}
 use Rattle.tables.specs.Buckets.{bucketLength, bucketPrefix}
 use Rattle.splits.specs.Splits.{handleItem, handleSplit, leftEntry, rightEntry}
 use Rattle.items.specs.declared.Items.{Items}
-use Rattle.items.specs.declared.Items.the-variants.{Keys, Prefixes, Handles}
+use Rattle.items.specs.declared.Items.the-variants.{Keys, Prefixes, Handles, Offsets}
 
 -- map 1, on the n keys: 256 × the length of the row's bucket + the row minus the bucket's first row
 unfoldable pub keyValues : ℕ → List ℕ → List ℕ
@@ -30,19 +31,25 @@ handleItems D = listed (length D - 2) (λ i. handleItem D (handleSplit D i))
 unfoldable pub handleSplits : List ℕ → List ℕ
 handleSplits D = listed (length D - 2) (handleSplit D)
 
+-- map 1 of the slim profile, on the n keys too: the whole value is the offset, the row minus its bucket's first row
+unfoldable pub offsetValues : ℕ → List ℕ → List ℕ
+offsetValues b T = listed (length T) (λ r. r % b)
+
 -- the items of a map over buckets of b rows; map 3 is that of their last keys, of the whole table with b = 1
 unfoldable pub itemsOf : Items → ℕ → List ℕ → List ℕ
 itemsOf Keys b T = T
 itemsOf Prefixes b T = prefixItems b T
 itemsOf Handles b T = handleItems (delimiters b T)
+itemsOf Offsets b T = T
 
 -- and their values
 unfoldable pub valuesOf : Items → ℕ → List ℕ → List ℕ
 valuesOf Keys b T = keyValues b T
 valuesOf Prefixes b T = bucketNumbers b T
 valuesOf Handles b T = handleSplits (delimiters b T)
+valuesOf Offsets b T = offsetValues b T
 
--- what maps 1 and 2 are built from: a table, and a bucket size within its limits
+-- what maps 1 and 2, and the offsets, are built from: a table, and a bucket size within its limits
 pub record Sorted (b : ℕ) (T : List ℕ) : Type 0 where
   pub table : Table T
   pub two : 2 ≤ b
@@ -63,6 +70,7 @@ abbrev pub Source : Items → ℕ → List ℕ → List ℕ → List ℕ → Typ
 Source Keys b T left right = Sorted b T
 Source Prefixes b T left right = Sorted b T
 Source Handles b T left right = Bounds b T left right
+Source Offsets b T left right = Sorted b T
 
 -- it is there where the items of the map are asked for
 pub record Known (w : Items) (b : ℕ) (T left right : List ℕ) : Type 0 where

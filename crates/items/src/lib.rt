@@ -1,5 +1,5 @@
-// Which item and which value stand at number i of each map (document 01, "Call index" and "Neighbour index"). They
-// are computed from the table and the bounds of its splits, and not stored.
+// Which item and which value stand at number i of each map (document 01, "Call index" and "Neighbour index", and
+// request One). They are computed from the table and the bounds of its splits, and not stored.
 //
 // Every function is proved and the crate assumes nothing. `Known` is what the builds have tested, and the bounds that
 // they have written.
@@ -28,6 +28,16 @@ pub enum Items {
     Prefixes,
     // Map 3, on the handles of the splits of the last keys of buckets; of the whole table, with buckets of one row.
     Handles,
+    // Map 1 of the slim profile, on the keys too: its whole value is the offset.
+    Offsets,
+}
+
+// The offset of row r, in either profile: the row minus its bucket's first row.
+fn offset_of(b: usize, r: usize) -> u32
+    requires { ⌜ (1 ≤ b) × (b ≤ 256) ⌝ }
+    ensures { λ o. ⌜ (o ≡ r % b) × (o < 256) ⌝ }
+{
+    (r % b) as u32
 }
 
 // The value of row r in map 1: 256 times the length of its bucket, and its offset there.
@@ -36,7 +46,7 @@ fn key_value(keys: &[u64], b: usize, r: usize) -> u16
     ensures { λ v. ⌜ v ≡ 256 * bucketLength b (now (keys .entry)) (r / b) + r % b ⌝ }
 {
     let bits = bucket_length(keys, b, r / b);
-    let offset = (r % b) as u32;
+    let offset = offset_of(b, r);
     (256 * bits + offset) as u16
 }
 
@@ -75,6 +85,7 @@ pub fn item_count(which: Items, b: usize, keys: &[u64], left: &[u16], right: &[u
         Items::Keys => keys.len(),
         Items::Prefixes => bucket_count(keys.len(), b),
         Items::Handles => handle_count(delimiter_count(keys, b)),
+        Items::Offsets => keys.len(),
     }
 }
 
@@ -87,6 +98,7 @@ pub fn item_at(which: Items, b: usize, keys: &[u64], left: &[u16], right: &[u16]
         Items::Keys => keys[i],
         Items::Prefixes => prefix_at(keys, b, i),
         Items::Handles => handle_at(keys, b, left, right, i),
+        Items::Offsets => keys[i],
     }
 }
 
@@ -99,5 +111,6 @@ pub fn value_at(which: Items, b: usize, keys: &[u64], left: &[u16], right: &[u16
         Items::Keys => key_value(keys, b, i),
         Items::Prefixes => i as u16,
         Items::Handles => split_at(left, i) as u16,
+        Items::Offsets => offset_of(b, i) as u16,
     }
 }

@@ -26,9 +26,9 @@ use Rattle.splits.proofs.Stores.{entered-at}
 use Rattle.walks.specs.Walk.{Answer, before, spoiled, pathWalk, storeWalk, Stored}
 use Rattle.places.specs.Said.{NeighbourSaid, place, refused, saidByNeighbour, standsAt, told, walkSays}
 use Rattle.places.specs.Inner.{Walkable}
-use Rattle.places.specs.declared.Place.{Place}
 use Rattle.places.specs.declared.NeighbourAnswer.{NeighbourAnswer}
 use Rattle.places.specs.declared.NeighbourAnswer.the-variants.{At, Refused}
+use Rattle.places.proofs.Telling.{same-place}
 use Rattle.neighbour.specs.Ask.{neighbourSays}
 use Rattle.stores.specs.Sizes.{shortStore, Fits, neighbourSizes}
 use Rattle.stores.specs.Stores.{asked, sizesOf}
@@ -41,12 +41,6 @@ use Rattle.walks.proofs.Answering.{by-size, walk-none, walk-one, walk-probes, w
 use Rattle.walks.proofs.Roots.{root-shared}
 
 -- two answers that say the same are the same
-same-place : (p q : Place) → p .before ≡ q .before → p .probes ≡ q .probes → p .stands ≡ q .stands
-    → p ≡ q
-same-place p q e f g =
-    let made : ℕ → ℕ → Bool → Place = λ b n s. record { before = b; probes = n; stands = s } in
-    let z : made (p .before) (p .probes) (p .stands) ≡ made (q .before) (q .probes) (q .stands) = cc in z
-
 pub said-injective : (a b : NeighbourAnswer) → saidByNeighbour a ≡ saidByNeighbour b → a ≡ b
 unfolding saidByNeighbour
 said-injective (At p) (At q) e = ap At (same-place p q (cc) (cc) (cc))

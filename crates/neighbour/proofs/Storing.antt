@@ -7,16 +7,19 @@ use lib.ListN.{length, drop}
 use lib.Seq.{drop-at}
 use Rattle.cells.specs.Cells.{workCount}
 use Rattle.cells.specs.Memory.{cleared}
+use Rattle.cells.proofs.Sweeping.{cleared-within}
 use Rattle.tables.specs.Tables.{Table, listed}
-use Rattle.tables.specs.Lengths.{handleCount, handleCells}
-use Rattle.tables.specs.Delimiters.{delimiters}
+use Rattle.tables.specs.Lengths.{handleCount, handleCells, callWork}
+use Rattle.tables.specs.Delimiters.{delimiters, Bucketed}
 use Rattle.tables.proofs.Lists.{length-listed}
-use Rattle.tables.proofs.Delimiting.{delimiters-one}
+use Rattle.stores.specs.Stores.{Stores}
 use Rattle.splits.specs.Splits.{leftEntry, rightEntry, lengthEntry, leftStore, rightStore}
 use Rattle.items.specs.Items.{handleItems, Bounds}
 use Rattle.items.proofs.Handling.{length-handles, stores-bounds}
 use Rattle.maps.specs.Built.{Room}
 use Rattle.maps.proofs.Determined.{cells-beyond}
+use Rattle.maps.proofs.Rooms.{fewer-work}
+use Rattle.neighbour.specs.Build.{NeighbourFilled}
 use Rattle.neighbour.specs.Inner.{Storable, StoresBuilt}
 
 -- a store with its first n entries written
@@ -35,38 +38,51 @@ module _ {b : ℕ} {keys handles left right work lengths : List ℕ}
       let D = delimiters b keys in
       record { forCells = rw (length-handles D) (S .handlesLong); forWork = rw (length-handles D) (S .workLong) }
 
--- the table itself, with buckets of one row
-pub storable-table : (keys handles left right work lengths : List ℕ) → Table keys → length keys ≤ 32768
-    → handleCells (length keys) ≤ length handles
-    → length keys ≤ length left → length keys ≤ length right → workCount (handleCount (length keys)) ≤ length work
-    → length keys ≤ length lengths → Storable 1 keys handles left right work lengths
-storable-table keys handles left right work lengths t few hl ll rl wl nl =
-    let one = delimiters-one keys in
-    record {
-      table = t;
-      bucketed = record { some = omega arith; most = omega arith; rows = few };
-      handlesLong = rw one hl;
-      leftLong = rw one ll;
-      rightLong = rw one rl;
-      workLong = rw one wl;
-      lengthsLong = rw one nl;
-    }
+-- k delimiters, and room for so many; the work for a map of all keys is enough
+pub storable : {b : ℕ} {keys handles left right work lengths : List ℕ} {k : ℕ} → length (delimiters b keys) ≡ k
+    → Table keys → Bucketed b keys → k ≤ length keys → handleCells k ≤ length handles → k ≤ length left
+    → k ≤ length right → callWork (length keys) ≤ length work → k ≤ length lengths
+    → Storable b keys handles left right work lengths
+storable {keys = keys} {k = k} is t counted fewer hl ll rl wl nl = record {
+  table = t;
+  bucketed = counted;
+  handlesLong = rw is hl;
+  leftLong = rw is ll;
+  rightLong = rw is rl;
+  workLong = rw is (omega (arith, fewer-work (handleCount k) (length keys) (omega arith), wl));
+  lengthsLong = rw is nl;
+}
 
--- whatever the build of the stores answers, past their named lengths they are as they were
+-- what the build of the stores leaves
 module _ {T : List ℕ} {seed : ℕ} {handles left right work lengths : List ℕ} {size : ℕ}
     {handles′ left′ right′ work′ lengths′ : List ℕ}
     (B : StoresBuilt T seed handles left right work lengths size handles′ left′ right′ work′ lengths′) where
-  pub handles-beyond : drop (handleCells (length T)) handles′ ≡ drop (handleCells (length T)) handles
-  handles-beyond = rw (length-handles T) at (cells-beyond seed (handleItems T) (B .map₃))
+  -- the work is that of a map before it, which was longer
+  pub swept-after : (n : ℕ) (old : List ℕ) → length T ≤ n → work ≡ cleared (callWork n) old
+      → work′ ≡ cleared (callWork n) old
+  swept-after n old fewer e =
+      let w = workCount (length (handleItems T)) in
+      let less : w ≤ callWork n = rw (length-handles T) (fewer-work (handleCount (length T)) n (omega arith)) in
+      B .map₃ .swept ∙ ap (cleared w) e ∙ cleared-within w (callWork n) old less
 
-  pub left-beyond : drop (length T) left′ ≡ drop (length T) left
-  left-beyond = ap (drop (length T)) (B .lefts) ∙ written-beyond (length T) (leftEntry T) left
+  -- whatever it answers, past the named lengths of k keys the stores are as they were
+  module _ {k : ℕ} (is : length T ≡ k) where
+    pub handles-beyond : drop (handleCells k) handles′ ≡ drop (handleCells k) handles
+    handles-beyond = rw (← is) (rw (length-handles T) at (cells-beyond seed (handleItems T) (B .map₃)))
 
-  pub right-beyond : drop (length T) right′ ≡ drop (length T) right
-  right-beyond = ap (drop (length T)) (B .rights) ∙ written-beyond (length T) (rightEntry T) right
+    pub left-beyond : drop k left′ ≡ drop k left
+    left-beyond = rw (← is) (ap (drop (length T)) (B .lefts) ∙ written-beyond (length T) (leftEntry T) left)
 
-  pub lengths-beyond : drop (length T) lengths′ ≡ drop (length T) lengths
-  lengths-beyond = ap (drop (length T)) (B .lens) ∙ written-beyond (length T) (lengthEntry T) lengths
+    pub right-beyond : drop k right′ ≡ drop k right
+    right-beyond = rw (← is) (ap (drop (length T)) (B .rights) ∙ written-beyond (length T) (rightEntry T) right)
 
-  pub stores-swept : work′ ≡ cleared (workCount (handleCount (length T))) work
-  stores-swept = B .map₃ .swept ∙ ap (λ (t : ℕ). cleared (workCount t) work) (length-handles T)
+    pub lengths-beyond : drop k lengths′ ≡ drop k lengths
+    lengths-beyond = rw (← is) (ap (drop (length T)) (B .lens) ∙ written-beyond (length T) (lengthEntry T) lengths)
+
+-- where there is no jam the neighbour index is there
+pub stores-filled : {T : List ℕ} {seed : ℕ} {S : Stores} (S′ : Stores) {work work′ : List ℕ} {size : ℕ}
+    → StoresBuilt T seed (S .handles) (S .left) (S .right) work (S .lengths) size (S′ .handles) (S′ .left) (S′ .right)
+    work′ (S′ .lengths)
+    → size ≡ 0 → NeighbourFilled T seed S S′
+stores-filled S′ B e =
+    record { handles = B .map₃ .accepted e .1; left = B .lefts; right = B .rights; lengths = B .lens }

@@ -1,5 +1,5 @@
 // Building the neighbour index: the bounds and the lengths of the splits, and map 3 on their handles. The function is
-// inner: the full build judges what it is lent before it calls it.
+// inner: the full build and the slim one judge what they are lent before they call it.
 ghost use Rattle.tables.specs.Delimiters.{delimiters};
 ghost use Rattle.neighbour.specs.Inner.{Storable, StoresBuilt};
 use items::Items;

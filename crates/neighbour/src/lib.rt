@@ -2,8 +2,8 @@
 // z-fast trie.
 //
 // Every function is proved and the crate assumes nothing. The entry `neighbour_ask` has no `requires`: whatever table
-// and stores it is lent, it answers or refuses as specs/Ask.antt says. `build` holds a part of the full build, which
-// asks for a table and stores that were judged.
+// and stores it is lent, it answers or refuses as specs/Ask.antt says. `build` holds what the full
+// build and the slim one share, which asks for a table and stores that were judged.
 pub mod ask;
 pub mod build;
 

@@ -40,6 +40,11 @@ module _ (bytes : List ℕ) where
   pub its-byte : {at : Located} {r : ℕ} → at ≡ At r → HasByte bytes at → r < length bytes
   its-byte e h = rw e at h
 
+  -- a row that is found has a byte, where each that can be found has one
+  pub found-byte : (at : Located) → ((q : ℕ) → at ≡ At q → q < length bytes) → HasByte bytes at
+  found-byte (At q) some = some q refl
+  found-byte Nowhere some = tt
+
 -- one row and no other
 one-row : {q r : ℕ} → At q ≡ At r → q ≡ r
 one-row e = cc

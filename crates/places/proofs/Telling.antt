@@ -12,7 +12,14 @@ use Rattle.tables.specs.Tables.{keyAt}
 use Rattle.tables.specs.Lengths.{handleCount}
 use Rattle.walks.specs.Walk.{agrees, descend, before, spoiled, Walk, decide, walk, storedLength, storeWalk}
 use Rattle.places.specs.Said.{NeighbourSaid, place, refused, told, walkSays}
+use Rattle.places.specs.declared.Place.{Place}
 use Rattle.walks.proofs.Answering.{walk-none, walk-one, walk-off, walk-on, walk-bad, halt}
+
+-- two places of which the same is said are the same
+pub same-place : (p q : Place) → p .before ≡ q .before → p .probes ≡ q .probes → p .stands ≡ q .stands → p ≡ q
+same-place p q e f g =
+    let made : ℕ → ℕ → Bool → Place = λ b n s. record { before = b; probes = n; stands = s } in
+    let z : made (p .before) (p .probes) (p .stands) ≡ made (q .before) (q .probes) (q .stands) = cc in z
 
 -- the answer that c keys stand before x
 module _ (T : List ℕ) (x probes c : ℕ) where

@@ -47,7 +47,7 @@ pub fn refused(tag: &[u8], r: Refusal) {
     refusal(r.number(), r.named());
 }
 
-// A tag, and an outcome of the call index.
+// A tag, and the outcome of an ask.
 pub fn outcome(tag: &[u8], o: Outcome) {
     word(tag);
     match o {

@@ -1,4 +1,7 @@
-// The asks, and what is told of their answers. The stores are as long as 2,000 keys in buckets of two rows ask for.
+// The asks, and what is told of their answers. The stores are as long as the full build of 2,000 keys in buckets of two
+// rows asks for.
+use crate::builds::Profile;
+use crate::builds::build;
 use callask::CallAnswer;
 use outcomes::Outcome;
 use places::NeighbourAnswer;
@@ -10,17 +13,19 @@ use samples::store::Part;
 use samples::store::first_bytes;
 use samples::store::mixed_bytes;
 use samples::store::none;
-use samples::store::same;
 use samples::text;
+use slimask::SlimAnswer;
 use std::num::wrapping_add_u64;
 use std::num::wrapping_sub_u64;
 use words::product::wrapping_mul;
 
-// The index that is asked. The call index, of buckets of so many rows, has no `left` and no `right`: its cells stand in
-// their place. The bytes are its row bytes, or the lengths of the neighbour index.
+// What is looked at, in buckets of so many rows: the outcomes of the call index, the places of the neighbour index, and
+// the outcomes and the places of the slim profile.
 enum Index {
     Call(usize),
     Neighbour,
+    Outcomes(usize),
+    Places(usize),
 }
 
 // An answer as a number, and what is counted of it: one for a row that was found, or the probes; and one for a row that
@@ -76,7 +81,7 @@ fn by_call(a: CallAnswer) -> Answer {
     }
 }
 
-fn flag(b: bool) -> u64 {
+pub fn flag(b: bool) -> u64 {
     if b { 1 } else { 0 }
 }
 
@@ -98,6 +103,20 @@ fn by_neighbour(a: NeighbourAnswer) -> Answer {
     }
 }
 
+fn by_outcome(a: SlimAnswer) -> Answer {
+    match a {
+        SlimAnswer::Told(o, _) => found(o),
+        SlimAnswer::Refused(r) => refused(r),
+    }
+}
+
+fn by_place(a: SlimAnswer) -> Answer {
+    match a {
+        SlimAnswer::Told(_, p) => placed(p),
+        SlimAnswer::Refused(r) => refused(r),
+    }
+}
+
 fn larger(a: u64, b: u64) -> u64 {
     if a < b { b } else { a }
 }
@@ -114,11 +133,13 @@ fn tell(t: Tally, a: Answer) -> Tally {
 fn ask(
     index: Index,
     keys: &[u64],
+    bytes: &[u8],
     seed: u64,
     cells: &[u16],
+    handles: &[u16],
     left: &[u16],
     right: &[u16],
-    bytes: &[u8],
+    lengths: &[u8],
     x: u64,
 ) -> Answer {
     match index {
@@ -126,64 +147,140 @@ fn ask(
         Index::Neighbour => by_neighbour(neighbour::neighbour_ask(
             keys,
             seed,
-            cells,
+            handles,
             left,
             right,
+            lengths,
+            x,
+        )),
+        Index::Outcomes(b) => by_outcome(slimask::slim_ask(
+            keys,
             bytes,
+            b,
+            seed,
+            seed,
+            cells,
+            handles,
+            left,
+            right,
+            lengths,
+            x,
+        )),
+        Index::Places(b) => by_place(slimask::slim_ask(
+            keys,
+            bytes,
+            b,
+            seed,
+            seed,
+            cells,
+            handles,
+            left,
+            right,
+            lengths,
             x,
         )),
     }
 }
 
-fn ask_around(
+// One ask more.
+fn ask_on(
     index: Index,
     keys: &[u64],
+    bytes: &[u8],
     seed: u64,
     cells: &[u16],
+    handles: &[u16],
     left: &[u16],
     right: &[u16],
-    bytes: &[u8],
+    lengths: &[u8],
     x: u64,
     t: Tally,
 ) -> Tally {
-    let same = tell(t, ask(index, keys, seed, cells, left, right, bytes, x));
-    let below = tell(
-        same,
-        ask(
-            index,
-            keys,
-            seed,
-            cells,
-            left,
-            right,
-            bytes,
-            wrapping_sub_u64(x, 1),
-        ),
-    );
     tell(
-        below,
+        t,
         ask(
             index,
             keys,
+            bytes,
             seed,
             cells,
+            handles,
             left,
             right,
-            bytes,
-            wrapping_add_u64(x, 1),
+            lengths,
+            x,
         ),
     )
 }
 
-// Each key, the key - 1 and the key + 1 in row order, and at last 0 and 2^64 - 1.
+// The key, the key - 1 and the key + 1.
+fn ask_around(
+    index: Index,
+    keys: &[u64],
+    bytes: &[u8],
+    seed: u64,
+    cells: &[u16],
+    handles: &[u16],
+    left: &[u16],
+    right: &[u16],
+    lengths: &[u8],
+    x: u64,
+    t: Tally,
+) -> Tally {
+    let below = wrapping_sub_u64(x, 1);
+    let above = wrapping_add_u64(x, 1);
+    let same = ask_on(
+        index,
+        keys,
+        bytes,
+        seed,
+        cells,
+        handles,
+        left,
+        right,
+        lengths,
+        x,
+        t,
+    );
+    let low = ask_on(
+        index,
+        keys,
+        bytes,
+        seed,
+        cells,
+        handles,
+        left,
+        right,
+        lengths,
+        below,
+        same,
+    );
+    ask_on(
+        index,
+        keys,
+        bytes,
+        seed,
+        cells,
+        handles,
+        left,
+        right,
+        lengths,
+        above,
+        low,
+    )
+}
+
+// Each key and its neighbours in row order, and at last 0 and 2^64 - 1.
 fn ask_all(
     index: Index,
     keys: &[u64],
+    bytes: &[u8],
     seed: u64,
     cells: &[u16],
+    handles: &[u16],
     left: &[u16],
     right: &[u16],
-    bytes: &[u8],
+    lengths: &[u8],
 ) -> Tally {
     let mut t = Tally {
         sum: 0,
@@ -193,35 +290,71 @@ fn ask_all(
     };
     let mut i = 0;
     while i < keys.len() {
-        t = ask_around(index, keys, seed, cells, left, right, bytes, keys[i], t);
-        i += 1;
-    }
-    let low = tell(t, ask(index, keys, seed, cells, left, right, bytes, 0));
-    tell(
-        low,
-        ask(
+        t = ask_around(
             index,
             keys,
+            bytes,
             seed,
             cells,
+            handles,
             left,
             right,
-            bytes,
-            0xFFFF_FFFF_FFFF_FFFF,
-        ),
+            lengths,
+            keys[i],
+            t,
+        );
+        i += 1;
+    }
+    let most = 0xFFFF_FFFF_FFFF_FFFF;
+    let low = ask_on(
+        index,
+        keys,
+        bytes,
+        seed,
+        cells,
+        handles,
+        left,
+        right,
+        lengths,
+        0,
+        t,
+    );
+    ask_on(
+        index,
+        keys,
+        bytes,
+        seed,
+        cells,
+        handles,
+        left,
+        right,
+        lengths,
+        most,
+        low,
     )
 }
 
-// The asks over the stores that the build leaves with the same seed for all maps, a part of some filled anew. The call
-// index has its row bytes where the build left the lengths.
+fn profile_of(index: Index) -> Profile {
+    match index {
+        Index::Call(_) => Profile::Full,
+        Index::Neighbour => Profile::Full,
+        Index::Outcomes(_) => Profile::Slim,
+        Index::Places(_) => Profile::Slim,
+    }
+}
+
+// The asks over the stores that the build in buckets of b rows leaves with the same seed for all maps, a part of each
+// filled anew, and with row bytes of which a part is filled and the others are 0.
 fn ask_built(
     index: Index,
     keys: &[u64],
     b: usize,
     seed: u64,
+    of_cells: Part,
     of_handles: Part,
     of_left: Part,
     of_right: Part,
+    of_lengths: Part,
     of_bytes: Part,
 ) -> Tally {
     let mut cells = [0u16; 3798];
@@ -229,8 +362,10 @@ fn ask_built(
     let mut left = [0u16; 2000];
     let mut right = [0u16; 2000];
     let mut work = [0u16; 9058];
+    let mut lengths = [0u8; 2000];
     let mut bytes = [0u8; 2000];
-    full::full_build(
+    build(
+        profile_of(index),
         keys,
         b,
         seed,
@@ -241,17 +376,26 @@ fn ask_built(
         &mut left,
         &mut right,
         &mut work,
-        &mut bytes,
+        &mut lengths,
     );
+    store::fill(of_cells, &mut cells);
     store::fill(of_handles, &mut handles);
     store::fill(of_left, &mut left);
     store::fill(of_right, &mut right);
+    store::fill_bytes(of_lengths, &mut lengths);
     store::fill_bytes(of_bytes, &mut bytes);
     let lent = first_bytes(keys.len(), &bytes);
-    match index {
-        Index::Call(_) => ask_all(index, keys, seed, &cells, &cells, &cells, lent),
-        Index::Neighbour => ask_all(index, keys, seed, &handles, &left, &right, lent),
-    }
+    ask_all(
+        index,
+        keys,
+        lent,
+        seed,
+        &cells,
+        &handles,
+        &left,
+        &right,
+        &lengths,
+    )
 }
 
 // How many rows were found, and the digest.
@@ -274,33 +418,105 @@ fn print_probes(tag: &[u8], t: Tally) {
     text::word(b"\n");
 }
 
-// The asks over the stores as the build leaves them, but for a part of the bytes.
-fn ask_true(index: Index, keys: &[u64], b: usize, seed: u64, of_bytes: Part) -> Tally {
-    let part = none();
-    ask_built(index, keys, b, seed, part, part, part, of_bytes)
+fn outcomes_of(profile: Profile, b: usize) -> Index {
+    match profile {
+        Profile::Full => Index::Call(b),
+        Profile::Slim => Index::Outcomes(b),
+    }
 }
 
-// The end of a line: the asks of both indexes over the stores that the build leaves, those of the call index with all
-// rows planned and with some withdrawn.
-pub fn print_both(keys: &[u64], b: usize, seed: u64) {
-    let call = Index::Call(b);
-    print_found(b" call=", ask_true(call, keys, b, seed, same(0, 2000, 0)));
-    print_withdrawn(ask_true(call, keys, b, seed, mixed_bytes(2000)));
+fn places_of(profile: Profile, b: usize) -> Index {
+    match profile {
+        Profile::Full => Index::Neighbour,
+        Profile::Slim => Index::Places(b),
+    }
+}
+
+// The end of a line: the asks in buckets of b rows over the stores that a build in buckets of `built` rows leaves, a
+// part of each filled anew: the outcomes with all rows planned and with some withdrawn, and the places.
+pub fn print_answers(
+    profile: Profile,
+    keys: &[u64],
+    b: usize,
+    built: usize,
+    seed: u64,
+    of_cells: Part,
+    of_handles: Part,
+    of_left: Part,
+    of_right: Part,
+    of_lengths: Part,
+) {
+    let outcomes = outcomes_of(profile, b);
+    let places = places_of(profile, b);
+    print_found(
+        b" call=",
+        ask_built(
+            outcomes,
+            keys,
+            built,
+            seed,
+            of_cells,
+            of_handles,
+            of_left,
+            of_right,
+            of_lengths,
+            none(),
+        ),
+    );
+    print_withdrawn(ask_built(
+        outcomes,
+        keys,
+        built,
+        seed,
+        of_cells,
+        of_handles,
+        of_left,
+        of_right,
+        of_lengths,
+        mixed_bytes(2000),
+    ));
     print_probes(
         b" neighbour=",
-        ask_true(Index::Neighbour, keys, b, seed, none()),
+        ask_built(
+            places,
+            keys,
+            built,
+            seed,
+            of_cells,
+            of_handles,
+            of_left,
+            of_right,
+            of_lengths,
+            none(),
+        ),
     );
 }
 
+// The same over the stores as the build leaves them.
+pub fn print_built(profile: Profile, keys: &[u64], b: usize, seed: u64) {
+    let part = none();
+    print_answers(profile, keys, b, b, seed, part, part, part, part, part);
+}
+
 // The asks of the call index over cells that no build left, a part of them filled and the others 0, and over row bytes
-// of the same kind.
+// of the same kind. It reads no other store: its cells stand in their place.
 fn ask_unbuilt(keys: &[u64], b: usize, of_cells: Part, of_rows: Part) -> Tally {
     let mut cells = [0u16; 3798];
     let mut rows = [0u8; 2000];
     store::fill(of_cells, &mut cells);
     store::fill_bytes(of_rows, &mut rows);
     let lent = first_bytes(keys.len(), &rows);
-    ask_all(Index::Call(b), keys, 0, &cells, &cells, &cells, lent)
+    ask_all(
+        Index::Call(b),
+        keys,
+        lent,
+        0,
+        &cells,
+        &cells,
+        &cells,
+        &cells,
+        lent,
+    )
 }
 
 // The end of a line: those asks with all rows planned and with some withdrawn.
@@ -310,9 +526,11 @@ pub fn print_call(keys: &[u64], b: usize, part: Part) {
     text::word(b"\n");
 }
 
-// The end of a line: the asks of the neighbour index over the stores that the build leaves, a part of each filled anew.
+// The end of a line: the places of the neighbour index over the stores that the full build leaves, a part of each
+// filled anew.
 pub fn print_neighbour(
     keys: &[u64],
+    b: usize,
     seed: u64,
     of_handles: Part,
     of_left: Part,
@@ -322,12 +540,14 @@ pub fn print_neighbour(
     let probed = ask_built(
         Index::Neighbour,
         keys,
-        2,
+        b,
         seed,
+        none(),
         of_handles,
         of_left,
         of_right,
         of_lengths,
+        none(),
     );
     print_probes(b" digest=", probed);
 }

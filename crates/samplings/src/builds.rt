@@ -1,4 +1,4 @@
-// What the build says, and what it leaves in its stores.
+// What a build says, and what it leaves in its stores.
 use refusals::Verdict;
 use samples::answer::digest_all;
 use samples::answer::digest_bytes;
@@ -10,10 +10,60 @@ use samples::store::first_mut;
 use samples::store::mixed;
 use stores::Sizes;
 
-// What the build says, and the digest of what it leaves.
+// The full build, or the slim one.
+pub enum Profile {
+    Full,
+    Slim,
+}
+
+// What a build says, and the digest of what it leaves.
 pub struct Trial {
     pub said: Verdict,
     pub digest: u64,
+}
+
+// Builds with the seeds of maps 1, 2 and 3; the slim build has no map 2.
+pub fn build(
+    profile: Profile,
+    keys: &[u64],
+    b: usize,
+    seed1: u64,
+    seed2: u64,
+    seed3: u64,
+    cells: &mut [u16],
+    handles: &mut [u16],
+    left: &mut [u16],
+    right: &mut [u16],
+    work: &mut [u16],
+    lengths: &mut [u8],
+) -> Verdict {
+    match profile {
+        Profile::Full => full::full_build(
+            keys,
+            b,
+            seed1,
+            seed2,
+            seed3,
+            cells,
+            handles,
+            left,
+            right,
+            work,
+            lengths,
+        ),
+        Profile::Slim => slim::slim_build(
+            keys,
+            b,
+            seed1,
+            seed3,
+            cells,
+            handles,
+            left,
+            right,
+            work,
+            lengths,
+        ),
+    }
 }
 
 // The first n entries of a store, filled so that what the build leaves alone differs from what it clears.
@@ -41,8 +91,10 @@ fn digest_cells(said: Verdict, before: u64, n: usize, cells: &[u16]) -> u64 {
     digest_first(before, n, cells)
 }
 
-// Builds in stores of the lengths that are lent, at most those that 2,000 keys in buckets of two rows ask for.
+// Builds in stores of the lengths that are lent, at most those that the full build of 2,000 keys in buckets of two rows
+// asks for.
 pub fn tried(
+    profile: Profile,
     keys: &[u64],
     b: usize,
     seed1: u64,
@@ -57,7 +109,8 @@ pub fn tried(
     let mut right = [0u16; 2000];
     let mut work = [0u16; 9058];
     let mut lengths = [0u8; 2000];
-    let said = full::full_build(
+    let said = build(
+        profile,
         keys,
         b,
         seed1,
@@ -86,15 +139,17 @@ struct Rooted {
     root: u16,
 }
 
-// The build with the same seed for all maps, in stores as long as 32,768 keys in buckets of 256 rows ask for.
-fn built(keys: &[u64], b: usize, seed: u64) -> Rooted {
+// The build with the same seed for all maps, in stores as long as the full build of 32,768 keys in buckets of 256 rows
+// asks for.
+fn built(profile: Profile, keys: &[u64], b: usize, seed: u64) -> Rooted {
     let mut cells = [0u16; 41463];
     let mut handles = [0u16; 41292];
     let mut left = [0u16; 32768];
     let mut right = [0u16; 32768];
     let mut work = [0u16; 148126];
     let mut lengths = [0u8; 32768];
-    let said = full::full_build(
+    let said = build(
+        profile,
         keys,
         b,
         seed,
@@ -113,23 +168,23 @@ fn built(keys: &[u64], b: usize, seed: u64) -> Rooted {
     }
 }
 
-pub fn verdict(keys: &[u64], b: usize, seed: u64) -> Verdict {
-    built(keys, b, seed).said
+pub fn verdict(profile: Profile, keys: &[u64], b: usize, seed: u64) -> Verdict {
+    built(profile, keys, b, seed).said
 }
 
-pub fn root(keys: &[u64], b: usize, seed: u64) -> u16 {
-    built(keys, b, seed).root
+pub fn root(profile: Profile, keys: &[u64], b: usize, seed: u64) -> u16 {
+    built(profile, keys, b, seed).root
 }
 
-fn takes(keys: &[u64], b: usize, seed: u64) -> bool {
-    verdict(keys, b, seed).number() == 0
+fn takes(profile: Profile, keys: &[u64], b: usize, seed: u64) -> bool {
+    verdict(profile, keys, b, seed).number() == 0
 }
 
 // The first seed of 0 to 255, the same for all maps, that the build takes; 255 also where it takes none.
-pub fn first_taken(keys: &[u64], b: usize) -> u64 {
+pub fn first_taken(profile: Profile, keys: &[u64], b: usize) -> u64 {
     let mut seed = 0;
     while seed < 255 {
-        if takes(keys, b, seed) {
+        if takes(profile, keys, b, seed) {
             return seed;
         }
         seed += 1;

@@ -18,10 +18,12 @@ use Rattle.tables.proofs.Delimiting.{buckets-le}
 use Rattle.tables.proofs.Rising.{no-fall-table}
 use Rattle.stores.specs.Sizes.{Fits, fullSizes}
 use Rattle.stores.specs.Stores.{Stores, lent, asked, same, sizesOf}
+use Rattle.stores.specs.Judged.{judged}
 use Rattle.stores.specs.declared.Sizes.{Sizes}
 use Rattle.stores.proofs.Judging.{falls-first, limits-pass, passed-judged}
-use Rattle.stores.proofs.Lending.{bucket-too-small, bucket-too-large, refused-by}
-use Rattle.full.specs.Build.{fullJudged, FullBuilt, refusal, jam, accepted}
+use Rattle.stores.proofs.Limiting.{bucket-too-small, bucket-too-large}
+use Rattle.verdicts.specs.Ended.{refusal, jam, accepted}
+use Rattle.full.specs.Build.{fullJudged, FullBuilt}
 use Rattle.index.specs.Answers.{Words}
 use Rattle.index.proofs.Accepted.{full-accepted, accepted-table}
 use Rattle.index.proofs.Answering.{build-answers}
@@ -68,17 +70,17 @@ module _ (keys : List ℕ) (words : Words keys) (few : length keys ≤ 2048) (b 
   judging : {A : Type 0} → ((b < 2) ⊎ (256 < b) → fullJudged keys b S ≡ refused 2 0 → A)
       → (2 ≤ b → b ≤ 256 → 0 < firstFall keys → fullJudged keys b S ≡ refused 3 (firstFall keys) → A)
       → (2 ≤ b → b ≤ 256 → Table keys → fullJudged keys b S ≡ taken → A) → A
+  unfolding judged
   judging size fall none =
       let n = length keys in
       let all : n ≤ 32768 = omega arith in
-      let refuse = refused-by keys b 2 0 (sizesOf S) want in
       elim (decLe 2 b) [
-        | no h ↦ size (inl (omega arith)) (refuse (bucket-too-small n b all (omega arith)))
+        | no h ↦ size (inl (omega arith)) (bucket-too-small refused n b all (omega arith) _)
         | yes two ↦ elim (decLe b 256) [
-          | no h ↦ size (inr (omega arith)) (refuse (bucket-too-large n b all two (omega arith)))
+          | no h ↦ size (inr (omega arith)) (bucket-too-large refused n b all two (omega arith) _)
           | yes most ↦ elim (decLe (firstFall keys) 0) [
             | no h ↦ fall two most (omega arith)
-                (limits-pass keys b (sizesOf S) want all two most
+                (limits-pass keys b (sizesOf S) want (record { few = all; two = two; most = most })
                 ∙ sym (falls-first keys (sizesOf S) want refl refl (omega arith)))
             | yes rises ↦
                 let zero : firstFall keys ≡ 0 = omega arith in

@@ -1,6 +1,6 @@
 -- What the judging of a build says: where no store is too short each has its named length, and the refusals come in
 -- their order. Assumes nothing.
-use mathlib.Core.Path.{_≡_, refl, sym, _∙_}
+use mathlib.Core.Path.{_≡_, refl, sym, ap, _∙_}
 use mathlib.Core.Bool.{Bool, true, false, cond}
 use mathlib.Core.List.{List}
 use Prim.Native.Nat.{ℕ, suc, _≤_, _<_}
@@ -12,11 +12,13 @@ use Rattle.basics.proofs.Bools.{differ, past-test}
 use Rattle.refusals.specs.Numbers.{BuildSaid, taken, refused}
 use Rattle.refusals.proofs.Naming.{test-passed}
 use Rattle.tables.specs.Tables.{mostKeys, firstFall}
+use Rattle.stores.specs.Limits.{limited}
 use Rattle.stores.specs.Sizes.{shortStore, Fits}
-use Rattle.stores.specs.Judged.{fallOrShort, judged}
-use Rattle.stores.specs.Vouched.{NoneShortIff, NoneRefusedIff, OneToFour}
+use Rattle.stores.specs.Judged.{fallOrShort, judged, askRefused}
+use Rattle.stores.specs.Vouched.{NoneShortIff, NoneRefusedIff, AskPassesIff, OneToFour}
 use Rattle.stores.specs.declared.Sizes.{Sizes}
 use Rattle.stores.proofs.Chains.{goes-on, refuses}
+use Rattle.stores.proofs.Limiting.{Within, within, said-within, limits-refused}
 
 -- a test that fails, and the rest of the chain
 passed : (t : Bool) (k rest : ℕ) → cond t (suc k) rest ≡ 0 → (t ≡ false) × (rest ≡ 0)
@@ -76,31 +78,28 @@ pub record Passed (keys : List ℕ) (b : ℕ) (have want : Sizes) : Type 0 where
 
 module _ (keys : List ℕ) (b : ℕ) (have want : Sizes) where
   -- refusals 1 and 2 don't: the others decide
-  pub limits-pass : length keys ≤ 32768 → 2 ≤ b → b ≤ 256 → judged keys b have want ≡ fallOrShort keys have want
+  pub limits-pass : Within (length keys) b → judged keys b have want ≡ fallOrShort keys have want
   unfolding judged
-  limits-pass few two most = goes-on _ few (goes-on _ two (goes-on _ most refl))
+  limits-pass W = within refused (length keys) b W refl
 
   pub judged-passed : judged keys b have want ≡ taken → Passed keys b have want
   unfolding judged fallOrShort
   judged-passed e =
-      let n = length keys in
       let short = shortStore have want in
-      let t₁ = test-passed (ltb mostKeys n) 1 0 _ e in
-      let t₂ = test-passed (ltb b 2) 2 0 _ (t₁ .1) in
-      let t₃ = test-passed (ltb 256 b) 2 0 _ (t₂ .1) in
-      let t₄ = test-passed (ltb 0 (firstFall keys)) 3 (firstFall keys) _ (t₃ .1) in
-      let t₅ = test-passed (ltb 0 short) 4 short _ (t₄ .1) in
+      let t₁ = said-within refused (length keys) b (λ k i d. differ (cc)) e in
+      let t₂ = test-passed (ltb 0 (firstFall keys)) 3 (firstFall keys) _ (t₁ .1) in
+      let t₃ = test-passed (ltb 0 short) 4 short _ (t₂ .1) in
       record {
-        few = ltb-false mostKeys n (t₁ .0);
-        two = ltb-false b 2 (t₂ .0);
-        most = ltb-false 256 b (t₃ .0);
-        rises = omega (arith, ltb-false 0 (firstFall keys) (t₄ .0));
-        fits = none-short have want (omega (arith, ltb-false 0 short (t₅ .0)));
+        few = t₁ .0 .few;
+        two = t₁ .0 .two;
+        most = t₁ .0 .most;
+        rises = omega (arith, ltb-false 0 (firstFall keys) (t₂ .0));
+        fits = none-short have want (omega (arith, ltb-false 0 short (t₃ .0)));
       }
 
   pub passed-judged : Passed keys b have want → judged keys b have want ≡ taken
   passed-judged P =
-      limits-pass (P .few) (P .two) (P .most)
+      limits-pass (record { few = P .few; two = P .two; most = P .most })
       ∙ sym (neither keys have want refl refl (omega (arith, P .rises)) (omega (arith, all-fit have want (P .fits))))
 
 -- only refusals 1 to 4 are judged: at each test of the chain the refusal is one of them
@@ -110,7 +109,7 @@ low-test true k a j low on e = let same : a ≡ k = cc in rw same at low
 low-test false k a j low on e = on e
 
 pub one-to-four : OneToFour
-unfolding judged fallOrShort
+unfolding judged fallOrShort limited
 one-to-four keys b have want k i =
     let short = shortStore have want in
     let fall = firstFall keys in
@@ -120,6 +119,45 @@ one-to-four keys b have want k i =
     (low-test (ltb 0 fall) k 3 fall (omega arith, omega arith)
     (low-test (ltb 0 short) k 4 short (omega arith, omega arith) (λ e. differ (cc))))))
 
+-- a build: what `judge` says once `limits` has passed, and what `limits` refuses
+pub judged-by : (keys : List ℕ) (b : ℕ) (have : Sizes) {w w′ : Sizes} {said : BuildSaid} → Within (length keys) b → w′ ≡ w
+    → said ≡ fallOrShort keys have w′ → judged keys b have w ≡ said
+judged-by keys b have {w} W is e = limits-pass keys b have w W ∙ ap (fallOrShort keys have) (sym is) ∙ sym e
+
+pub refused-by : (keys : List ℕ) (b : ℕ) (have want : Sizes) {k i : ℕ} → refused k i ≡ limited refused (length keys) b taken
+    → judged keys b have want ≡ refused k i
+unfolding judged
+refused-by keys b have want e = limits-refused (length keys) b refused (fallOrShort keys have want) e
+
+-- an ask: the refusals before what it finds, in their order
+module _ {A : Type 0} (refuse : ℕ → ℕ → A) (n b : ℕ) (have want : Sizes) where
+  pub ask-limited : (said : A) {k i : ℕ} → refused k i ≡ limited refused n b taken
+      → askRefused refuse n b have want said ≡ refuse k i
+  unfolding askRefused
+  ask-limited said e = limits-refused n b refuse _ e
+
+  pub ask-short : (said : A) → Within n b → {short : ℕ} → short ≡ shortStore have want → 0 < short
+      → askRefused refuse n b have want said ≡ refuse 4 short
+  unfolding askRefused
+  ask-short said W is h = rw (← is) (within refuse n b W (refuses _ _ h))
+
+  -- it passes them with a bucket size and a table within the limits and room in its stores
+  pub ask-passes : {said : A} → Within n b → Fits have want → askRefused refuse n b have want said ≡ said
+  unfolding askRefused
+  ask-passes W F =
+      let enough : shortStore have want ≤ 0 = omega (arith, all-fit have want F) in
+      within refuse n b W (goes-on _ enough refl)
+
+  -- and only then it says what is no refusal
+  pub ask-told : {said r : A} → ((k i : ℕ) → refuse k i ≡ r → ⊥) → askRefused refuse n b have want said ≡ r
+      → Within n b × Fits have want × (said ≡ r)
+  unfolding askRefused
+  ask-told apart e =
+      let short = shortStore have want in
+      let t₁ = said-within refuse n b apart e in
+      let t₂ = past-test (ltb 0 short) (refuse 4 short) _ (apart 4 short) (t₁ .1) in
+      (t₁ .0, none-short have want (omega (arith, ltb-false 0 short (t₂ .0))), t₂ .1)
+
 -- so the definitions are what document 01 says
 pub none-short-iff : NoneShortIff
 none-short-iff h w = (none-short h w, all-fit h w)
@@ -128,4 +166,12 @@ pub none-refused-iff : NoneRefusedIff
 none-refused-iff keys b h w = (
   (λ e. let P = judged-passed keys b h w e in (P .few, P .two, P .most, P .rises, P .fits)),
   (λ p. passed-judged keys b h w (record { few = p .0; two = p .1; most = p .2; rises = p .3; fits = p .4 })),
+)
+
+pub ask-passes-iff : AskPassesIff
+ask-passes-iff n b h w = (
+  (λ e.
+      let t = ask-told refused n b h w (λ k i d. differ (cc)) e in
+      (t .0 .few, t .0 .two, t .0 .most, t .1)),
+  (λ p. ask-passes refused n b h w (record { few = p .0; two = p .1; most = p .2 }) (p .3)),
 )

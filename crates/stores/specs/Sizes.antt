@@ -1,18 +1,18 @@
 -- Document 01, "Refusal numbers and their order", and requests Six and Eight: refusal 4, and the named lengths of the
--- stores that each entry is lent, for n keys and bucket size b. A request that adds a store adds a field and a line
--- here.
+-- stores that each entry of the full index is lent, for n keys and bucket size b. (Those of the slim profile stand in
+-- slimstores.) A request that adds a store adds a field and a line here.
 use mathlib.Core.Bool.{cond}
 use Prim.Native.Nat.{ℕ, _≤_}
 use lib.Dec.{ltb}
 use Rattle.refusals.specs.Numbers.{number, names}
-use Rattle.tables.specs.Tables.{mostKeys}
 use Rattle.tables.specs.Lengths.{callCells, handleCells, callWork}
+use Rattle.stores.specs.Limits.{limited}
 use Rattle.stores.specs.declared.Sizes.{Sizes}
 use Rattle.stores.specs.declared.Lend.{Lend}
 use Rattle.stores.specs.declared.Lend.the-variants as lend
 
--- the first store that is shorter than it has to be, 0 if none is: 1 call cells, 2 handle cells, 3 left, 4 right, 5
--- work, 6 lengths, 7 row bytes
+-- the first store that is shorter than it has to be, 0 if none is: 1 call or offset cells, 2 handle cells, 3 left, 4
+-- right, 5 work, 6 lengths, 7 row bytes
 unfoldable pub shortStore : (have want : Sizes) → ℕ
 shortStore have want =
     cond (ltb (have .cells) (want .cells)) 1
@@ -71,8 +71,6 @@ abbrev pub saidByLend : Lend → LendSaid
 saidByLend (lend.Sizes s) = sizes s
 saidByLend (lend.Refused r) = refused (number r) (names r)
 
--- refusal 1 for more than 32,768 keys, then 2 for a bucket size outside 2 to 256, then the lengths
+-- refusals 1 and 2, then the lengths
 unfoldable pub namedLengths : ℕ → ℕ → LendSaid
-namedLengths n b =
-    cond (ltb mostKeys n) (refused 1 0)
-    (cond (ltb b 2) (refused 2 0) (cond (ltb 256 b) (refused 2 0) (sizes (lendSizes n b))))
+namedLengths n b = limited refused n b (sizes (lendSizes n b))

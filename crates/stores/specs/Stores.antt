@@ -6,7 +6,8 @@ use lib.ListN.{length}
 use Rattle.cells.specs.Memory.{cleared}
 use Rattle.stores.specs.declared.Sizes.{Sizes}
 
--- stores 1 to 6; the lengths are bytes. The row bytes, store 7, stand beside the table
+-- stores 1 to 6, the first of which holds the call cells or, in the slim profile, the offset cells; the lengths are
+-- bytes. The row bytes, store 7, stand beside the table
 pub record Stores : Type 0 where
   pub cells : List ℕ
   pub handles : List ℕ

@@ -1,16 +1,15 @@
-// The stores that a caller lends (document 01, "Refusal numbers and their order"): their named lengths, the first that
-// is too short, what a build refuses before it builds, and the clearing of all of them.
+// The stores that a caller lends (document 01, "Refusal numbers and their order"): refusals 1 and 2, the named lengths
+// of the full index, the first store that is too short, and what a build refuses before it builds.
 //
-// Every function is proved and the crate assumes nothing. `named_lengths`, `short_store` and `judge` take whatever they
-// are handed; the others ask for sizes that their callers have tested.
+// Every function is proved and the crate assumes nothing. `limits`, `named_lengths`, `short_store` and `judge` take
+// whatever they are handed; the others ask for sizes that their callers have tested.
 ghost use mathlib.Core.Path.{_≡_};
 ghost use Prim.Native.Nat.{_≤_};
-ghost use Rattle.stores.specs.Sizes.{shortStore, storeSizes, fullSizes, callSizes, neighbourSizes, Fits};
+ghost use Rattle.refusals.specs.Numbers.{taken, refused};
+ghost use Rattle.stores.specs.Limits.{limited};
+ghost use Rattle.stores.specs.Sizes.{shortStore, storeSizes, fullSizes, callSizes, neighbourSizes};
 ghost use Rattle.stores.specs.Sizes.{saidByLend, namedLengths};
-ghost use Rattle.stores.specs.Stores.{lent, sizesOf, clearedStores};
 ghost use Rattle.stores.specs.Judged.{fallOrShort, saidByJudge};
-use cells::clear;
-use cells::clear_bytes;
 use refusals::Refusal;
 use tables::lengths::call_cells;
 use tables::lengths::call_work;
@@ -29,13 +28,13 @@ pub struct Sizes {
     pub bytes: usize,
 }
 
-// What a caller has to lend, or the refusal that the build would give whatever is lent.
+// What a caller has to lend, or the refusal that a build would give whatever is lent.
 pub enum Lend {
     Sizes(Sizes),
     Refused(Refusal),
 }
 
-// What is said of a build before it builds.
+// What is said of a build before it builds, or of an ask before it looks.
 pub enum Judged {
     Passed,
     Refused(Refusal),
@@ -125,21 +124,32 @@ pub fn neighbour_sizes(n: usize) -> Sizes
     }
 }
 
-// The named length of every store that the build or an ask is lent, for n keys in buckets of b rows: refusal 1 for more
-// than 32,768 keys, then 2 for a b outside 2 to 256.
+// Refusal 1 for more than 32,768 keys, then 2 for a b outside 2 to 256: before all others, wherever a table of n keys
+// and a bucket size are judged.
+pub fn limits(n: usize, b: usize) -> Judged
+    ensures { λ r. ⌜ saidByJudge r ≡ limited refused n b taken ⌝ }
+{
+    if n > 32768 {
+        return Judged::Refused(Refusal::TooManyKeys);
+    }
+    if b < 2 {
+        return Judged::Refused(Refusal::BucketSize);
+    }
+    if b <= 256 {
+        return Judged::Passed;
+    }
+    Judged::Refused(Refusal::BucketSize)
+}
+
+// The named length of every store that the full build, the call ask or the neighbour ask is lent, for n keys in buckets
+// of b rows, or refusal 1 or 2.
 pub fn named_lengths(n: usize, b: usize) -> Lend
     ensures { λ r. ⌜ saidByLend r ≡ namedLengths n b ⌝ }
 {
-    if n > 32768 {
-        return Lend::Refused(Refusal::TooManyKeys);
+    match limits(n, b) {
+        Judged::Refused(refusal) => Lend::Refused(refusal),
+        Judged::Passed => Lend::Sizes(store_sizes(n, b, n)),
     }
-    if b < 2 {
-        return Lend::Refused(Refusal::BucketSize);
-    }
-    if b <= 256 {
-        return Lend::Sizes(store_sizes(n, b, n));
-    }
-    Lend::Refused(Refusal::BucketSize)
 }
 
 // Refusals 3 and 4 of a build, once 1 and 2 do not apply.
@@ -155,28 +165,4 @@ pub fn judge(keys: &[u64], have: Sizes, want: Sizes) -> Judged
         return Judged::Refused(Refusal::Short(short));
     }
     Judged::Passed
-}
-
-// All stores become 0 over their named lengths, those too that were not written: what a jam leaves.
-pub fn clear_stores(
-    want: Sizes,
-    cells: &mut [u16],
-    handles: &mut [u16],
-    left: &mut [u16],
-    right: &mut [u16],
-    work: &mut [u16],
-    lengths: &mut [u8],
-)
-    requires { ⌜ Fits (sizesOf (lent (now cells) (now handles) (now left) (now right) (now work) (now lengths))) want ⌝ }
-    ensures { λ _. ⌜ lent (now (cells .exit)) (now (handles .exit)) (now (left .exit)) (now (right .exit))
-        (now (work .exit)) (now (lengths .exit))
-        ≡ clearedStores want (lent (now (cells .entry)) (now (handles .entry)) (now (left .entry))
-        (now (right .entry)) (now (work .entry)) (now (lengths .entry))) ⌝ }
-{
-    clear(cells, want.cells);
-    clear(handles, want.handles);
-    clear(left, want.left);
-    clear(right, want.right);
-    clear(work, want.work);
-    clear_bytes(lengths, want.lengths);
 }

@@ -32,7 +32,7 @@ pub fn handle_cells(n: usize) -> usize
     cell_count(handle_count(n))
 }
 
-// The work of a build: enough for each of the three maps.
+// The work of a build, which goes by the map on all keys: enough for its other maps too.
 pub fn call_work(n: usize) -> usize
     requires { ⌜ n ≤ 32768 ⌝ }
     ensures { λ r. ⌜ r ≡ callWork n ⌝ }

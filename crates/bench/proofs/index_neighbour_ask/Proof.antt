@@ -9,8 +9,8 @@ use Rattle.bench.proofs.index_neighbour_ask.Tie as tie
 returns : tie.Need-returns
 unfolding saidByNeighbour
 returns c =
-    let a = c .before .before .a .given in
-    cc (ap neighbourCode (rw (a .1) at (c .before .before .before .before .neighbour-ask .ensures)), c .flag .ensures)
+    let said = c .before .before .before .before .neighbour-ask .ensures in
+    c .placed .ensures ∙ ap neighbourCode (rw (c .before .before .a .given .1) at said)
 
 returns-2 : tie.Need-returns-2
 unfolding saidByNeighbour

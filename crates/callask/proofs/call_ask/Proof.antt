@@ -4,7 +4,9 @@ use mathlib.Core.Path.{_≡_}
 use borrow.Author.Needs.{needs}
 use borrow.Author.Tests.{lt-ltb, le-ltb}
 use lib.ListN.{length}
+use Rattle.stores.specs.Limits.{limited}
 use Rattle.stores.specs.Sizes.{shortStore, Fits, callSizes}
+use Rattle.stores.specs.Judged.{askRefused}
 use Rattle.callask.specs.Ask.{callSays}
 use Rattle.callask.specs.Inner.{Askable}
 use Rattle.callask.proofs.Asking.{has, asks-fit, says-short, by-the-rule}
@@ -13,15 +15,15 @@ use Rattle.callask.proofs.call_ask.Statement.{statement}
 use Rattle.callask.proofs.call_ask.Tie as tie
 
 returns : tie.Need-returns
-unfolding callSays
+unfolding callSays askRefused limited
 returns c = search (needs, lt-ltb, le-ltb)
 
 returns-2 : tie.Need-returns-2
-unfolding callSays
+unfolding callSays askRefused limited
 returns-2 c = search (needs, lt-ltb, le-ltb)
 
 returns-3 : tie.Need-returns-3
-unfolding callSays
+unfolding callSays askRefused limited
 returns-3 c = search (needs, lt-ltb, le-ltb)
 
 abbrev start : tie.Else3 → tie.Start

@@ -2,7 +2,7 @@
 use mathlib.Core.Path.{refl, _∙_}
 use native.Mathlib.Omega.{arith}
 use borrow.Author.Needs.{needs}
-use Rattle.full.proofs.Building.{buildable, storable, first-jams, second-jams, third-jams, all-built}
+use Rattle.full.proofs.Building.{buildable, storable-table, first-jams, second-jams, third-jams, all-built}
 use Rattle.full.proofs.build_maps.Statement.{statement}
 use Rattle.full.proofs.build_maps.Tie as tie
 
@@ -25,7 +25,7 @@ build-stores-requires : tie.Need-build-stores-requires
 build-stores-requires c κs =
     let p = c .before .before .before .before .before .before .before .before .before .before in
     let k = first p in
-    storable (start k .pre) (p .build-prefixes .kept .1 .1 .1 .1 .0 ∙ k .build-keys .kept .1 .1 .1 .1 .0)
+    storable-table (start k .pre) (p .build-prefixes .kept .1 .1 .1 .1 .0 ∙ k .build-keys .kept .1 .1 .1 .1 .0)
 
 returns : tie.Need-returns
 returns c =

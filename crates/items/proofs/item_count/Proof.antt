@@ -1,12 +1,13 @@
 -- `items::item_count` meets its contract, map by map. Assumes nothing.
-use mathlib.Core.Path.{refl, sym, _∙_}
+use mathlib.Core.Path.{sym, _∙_}
+use mathlib.Core.Logic.{inl, inr}
 use native.Mathlib.Omega.{arith}
 use borrow.Author.Needs.{needs}
 use Rattle.tables.specs.Delimiters.{delimiters}
 use Rattle.items.specs.Items.{itemsOf}
 use Rattle.items.proofs.Values.{length-prefixes}
 use Rattle.items.proofs.Handling.{length-handles, delimiters-few}
-use Rattle.items.proofs.Sources.{known-keys, known-prefixes, known-handles}
+use Rattle.items.proofs.Sources.{keys-counted, known-prefixes, known-handles}
 use Rattle.items.proofs.item_count.Statement.{statement}
 use Rattle.items.proofs.item_count.Tie as tie
 
@@ -20,10 +21,7 @@ delimiter-count-requires c κs =
     known-handles (c .enum-told3 .given .1) (c .before .before .before .before .before .pre) .bucketed
 
 returns : tie.Need-returns
-unfolding itemsOf
-returns c =
-    let k = known-keys (c .enum-told .given .1) (c .before .before .before .before .before .pre) in
-    rw (c .enum-told .given .1) (refl, k .few)
+returns c = keys-counted (inl (c .enum-told .given .1)) (c .before .before .before .before .before .pre)
 
 returns-2 : tie.Need-returns-2
 unfolding itemsOf
@@ -43,8 +41,11 @@ returns-3 c =
     let few = delimiters-few (s .args .b) (s .args .keys .now) (s .args .left .now) (s .args .right .now) k in
     rw is (omega (arith, length-handles D), omega (arith, length-handles D))
 
+returns-4 : tie.Need-returns-4
+returns-4 c = keys-counted (inr (c .enum-told4 .given .1)) (c .before .before .before .before .before .pre)
+
 pub item-count-spec : {M : Type 1} → statement M
 item-count-spec =
     tie.close
     (tie.spec (λ c. search needs) (λ c. search needs) bucket-count-requires (λ c. search needs)
-    delimiter-count-requires (λ c κs. search needs) returns returns-2 returns-3)
+    delimiter-count-requires (λ c κs. search needs) (λ c. search needs) returns returns-2 returns-3 returns-4)

@@ -1,15 +1,10 @@
 -- `items::key_value` meets its contract: the row's bucket is there, and its length and the offset fit a byte each.
 -- Assumes nothing.
-use Prim.Native.Nat.{_%_, _<_}
 use native.Mathlib.Omega.{arith}
 use borrow.Author.Needs.{needs}
-use Rattle.items.proofs.Values.{sorted-bucketed, row-bucket, offset-small}
+use Rattle.items.proofs.Values.{sorted-bucketed, row-bucket}
 use Rattle.items.proofs.key_value.Statement.{statement}
 use Rattle.items.proofs.key_value.Tie as tie
-
-offset : (c : tie.After-bucket-length) → let a = c .before .before .args in a .r % a .b < 256
-offset c =
-    let s = c .before .before in offset-small (s .args .b) (s .args .keys .now) (s .pre .0) (s .args .r) (s .pre .1)
 
 bucket-length-requires : tie.Need-bucket-length-requires
 bucket-length-requires c κs =
@@ -20,5 +15,5 @@ bucket-length-requires c κs =
 pub key-value-spec : {M : Type 1} → statement M
 key-value-spec =
     tie.close
-    (tie.spec (λ c. search needs) bucket-length-requires (λ c. search needs) (λ c. omega (arith, offset c))
-    (λ c. omega (arith, offset c)) (λ c. omega (arith, offset c)) (λ c. omega (arith, offset c)) (λ c. search needs))
+    (tie.spec (λ c. search needs) bucket-length-requires (λ c κs. search needs) (λ c. omega arith) (λ c. omega arith)
+    (λ c. omega arith) (λ c. search needs))

@@ -1,22 +1,29 @@
--- `stores::named_lengths` meets its contract: the tests of the definition, in its order. Assumes nothing.
+-- `stores::named_lengths` meets its contract: refusals 1 and 2, then the lengths. Assumes nothing.
+use mathlib.Core.Path.{refl, sym, ap, _∙_}
+use native.Mathlib.Omega.{arith}
 use borrow.Author.Needs.{needs}
-use Rattle.stores.proofs.Lending.{too-many-keys, bucket-too-small, bucket-too-large, lengths-are}
+use Rattle.stores.specs.Sizes.{sizes, refused, namedLengths}
+use Rattle.stores.specs.Judged.{saidByJudge}
+use Rattle.stores.proofs.Limiting.{Within, within, limits-passed, limits-refused}
 use Rattle.stores.proofs.named_lengths.Statement.{statement}
 use Rattle.stores.proofs.named_lengths.Tie as tie
 
+passed : (t : tie.After-enum-told) → let a = t .before .before .before .args in Within (a .n) (a .b)
+passed t = limits-passed _ _ (sym (ap saidByJudge (t .enum-told .given .1)) ∙ t .before .before .limits .ensures)
+
+store-sizes-requires : tie.Need-store-sizes-requires
+store-sizes-requires c κs = let W = passed c in (omega (arith, W .two), W .most, W .few)
+
 returns : tie.Need-returns
-returns c = too-many-keys _ _ (c .if1 .taken)
+unfolding namedLengths
+returns c =
+    let r = c .before in
+    sym (limits-refused _ _ refused _ (sym (ap saidByJudge (r .refusal .given .1)) ∙ r .before .before .limits .ensures))
 
 returns-2 : tie.Need-returns-2
-returns-2 c = bucket-too-small _ _ (c .before .if1 .left) (c .if2 .taken)
-
-returns-3 : tie.Need-returns-3
-returns-3 c =
-    let e = c .before in
-    lengths-are _ _ (e .before .before .if1 .left) (e .before .if2 .left) (e .if3 .taken) (c .store-sizes .ensures)
-
-returns-4 : tie.Need-returns-4
-returns-4 c = bucket-too-large _ _ (c .before .before .if1 .left) (c .before .if2 .left) (c .if3 .left)
+unfolding namedLengths
+returns-2 c = ap sizes (c .store-sizes .ensures) ∙ sym (within refused _ _ (passed (c .before)) refl)
 
 pub named-lengths-spec : {M : Type 1} → statement M
-named-lengths-spec = tie.close (tie.spec returns returns-2 (λ c κs. search needs) returns-3 returns-4)
+named-lengths-spec =
+    tie.close (tie.spec (λ c. search needs) (λ c. search needs) (λ c. search needs) store-sizes-requires returns returns-2)

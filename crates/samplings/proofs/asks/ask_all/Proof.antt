@@ -7,10 +7,10 @@ use Rattle.samplings.proofs.asks.ask_all.Statement.{statement}
 use Rattle.samplings.proofs.asks.ask_all.Tie as tie
 
 abbrev Inv-loop : tie.InvT-loop
-Inv-loop index keys seed cells left right bytes t₀ i₀ t i = i ≤ length keys
+Inv-loop index keys bytes seed cells handles left right lengths t₀ i₀ t i = i ≤ length keys
 
 abbrev μ-loop : tie.MeasureT-loop
-μ-loop index keys seed cells left right bytes t₀ i₀ t i = length keys - i
+μ-loop index keys bytes seed cells handles left right lengths t₀ i₀ t i = length keys - i
 
 pub ask-all-spec : {M : Type 1} → statement M
 ask-all-spec =
@@ -25,8 +25,6 @@ ask-all-spec =
     (λ c. search needs)
     (λ c. search needs)
     (λ c. search needs)
-    (λ c κs. search needs)
-    (λ c κs. search needs)
     (λ c κs. search needs)
     (λ c κs. search needs)
     (λ c. search needs))

@@ -6,10 +6,10 @@ use Rattle.samplings.proofs.builds.first_taken.Statement.{statement}
 use Rattle.samplings.proofs.builds.first_taken.Tie as tie
 
 abbrev Inv-loop : tie.InvT-loop
-Inv-loop keys b seed₀ seed = seed ≤ 255
+Inv-loop profile keys b seed₀ seed = seed ≤ 255
 
 abbrev μ-loop : tie.MeasureT-loop
-μ-loop keys b seed₀ seed = 255 - seed
+μ-loop profile keys b seed₀ seed = 255 - seed
 
 pub first-taken-spec : {M : Type 1} → statement M
 first-taken-spec =

@@ -32,14 +32,14 @@ returns-2 : tie.Need-returns-2
 returns-2 c =
     let s = c .before .before .before in
     let keys = s .args .keys .now in
-    ap (keyAt keys) (row-inner (length keys) (s .args .b) (s .args .i) (c .before .if2 .taken))
+    ap (keyAt keys) (row-inner (length keys) (s .args .b) (s .args .i) (omega (arith, c .before .if2 .taken)))
     ∙ sym (delimiter-is (s .args .b) keys (s .args .i) (there s))
 
 returns-3 : tie.Need-returns-3
 returns-3 c =
     let s = c .before .before .before in
     let keys = s .args .keys .now in
-    ap (keyAt keys) (row-last (length keys) (s .args .b) (s .args .i) (c .before .if2 .left))
+    ap (keyAt keys) (row-last (length keys) (s .args .b) (s .args .i) (omega (arith, c .before .if2 .left)))
     ∙ sym (delimiter-is (s .args .b) keys (s .args .i) (there s))
 
 pub delimiter-at-spec : {M : Type 1} → statement M
