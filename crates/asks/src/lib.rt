@@ -1,6 +1,8 @@
 // The answers to the asks (document 01, "`rowcheck`"), printed one after the other over stores that answer.
 //
 // Every function is proved and the crate assumes nothing.
+#![tactic(auto)]
+
 ghost use Rattle.std.specs.Prelude.{◌≡◌, ◌≤◌, length};
 ghost use Rattle.digits.specs.Texts.{Writes};
 ghost use Rattle.lines.specs.Lines.{texts};

@@ -3,6 +3,8 @@
 //
 // Every function is proved and the crate assumes nothing. No function has a `requires`: each takes what the entry
 // behind it takes.
+#![tactic(auto)]
+
 ghost use Rattle.std.specs.Prelude.{◌≡◌};
 ghost use Rattle.refusals.specs.Numbers.{number, names, said_by_build};
 ghost use Rattle.outcomes.specs.Outcomes.{told_by};

@@ -1,6 +1,8 @@
 // The bounds of the splits: left, right and the root, by jumping, in one pass each way.
 //
 // Every function is proved and the crate assumes nothing. Each `requires` is a table and room that the builds have tested.
+#![tactic(auto)]
+
 ghost use Rattle.std.specs.Prelude.{◌≡◌, ◌+◌, ◌-◌, ◌≤◌, ◌<◌, length};
 ghost use Rattle.tables.specs.Tables.{Table};
 ghost use Rattle.tables.specs.Delimiters.{delimiters, Bucketed};
@@ -12,7 +14,7 @@ use splits::split::{entry_at, len_at};
 use tables::delimiter::delimiter_count;
 
 // A split, 0 for none, and its len, which is 65 for none: more than any.
-#[derive(Drop)]
+#[derive(Clone, Copy)]
 struct Shortest {
     split: usize,
     bits: u32,

@@ -3,6 +3,8 @@
 //
 // Every function is proved and the crate assumes nothing. The entry `call_ask`, which stands in `callask`, takes whatever
 // it is handed; `build` holds the parts of the full build, which ask for a table and stores that were judged.
+#![tactic(auto)]
+
 pub mod build;
 
 pub use callask::{CallAnswer, call_ask};

@@ -2,6 +2,8 @@
 // run is withdrawn gets it too and is told from the planned ones, and every other key is absent.
 //
 // Every function is proved and the crate assumes nothing. `call_ask` takes whatever it is handed.
+#![tactic(auto)]
+
 ghost use Rattle.std.specs.Prelude.{◌≡◌, ◌<◌};
 ghost use Rattle.callask.specs.Ask.{said_by_call, call_says, rule_says};
 ghost use Rattle.callask.specs.Inner.{Askable};
@@ -10,7 +12,7 @@ use outcomes::{Located, Outcome, compared, mark};
 use refusals::Refusal;
 use stores::Sizes;
 
-#[derive(Drop)]
+#[derive(Clone, Copy)]
 pub enum CallAnswer {
     Told(Outcome),
     Refused(Refusal),

@@ -2,6 +2,8 @@
 //
 // Every function is proved and the crate assumes nothing. No public function has a `requires`: a field that is too
 // large gets refusal 7.
+#![tactic(auto)]
+
 ghost use Rattle.std.specs.Prelude.{◌≡◌};
 ghost use Rattle.callkey.specs.CallKeys.{said_by_packer, pack_says, said_by_unpacker, unpack_says};
 
@@ -12,7 +14,7 @@ use refusals::Refusal;
 const LAST_SECOND: u32 = 107_999;
 
 // What a planned call is: a day, a stop, a second of the service day and the block that runs it.
-#[derive(Drop)]
+#[derive(Clone, Copy)]
 pub struct Fields {
     pub day: u32,
     pub stop: u32,
@@ -20,13 +22,13 @@ pub struct Fields {
     pub block: u32,
 }
 
-#[derive(Drop)]
+#[derive(Clone, Copy)]
 pub enum Packed {
     Key(u64),
     Refused(Refusal),
 }
 
-#[derive(Drop)]
+#[derive(Clone, Copy)]
 pub enum Unpacked {
     Fields(Fields),
     Refused(Refusal),

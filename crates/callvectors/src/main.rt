@@ -1,5 +1,7 @@
 // Writes what the call index says of single keys, planned, withdrawn and absent, and digests of what it says over
 // stores that no build left (docs/VECTORS.md).
+#![tactic(auto)]
+
 mod unbuilt;
 
 use samplings::builds::Profile;

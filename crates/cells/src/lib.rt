@@ -3,6 +3,8 @@
 //
 // Every function is proved and the crate assumes nothing. Each `requires` is a size that the callers have tested, or
 // its reciprocal.
+#![tactic(auto)]
+
 ghost use Rattle.std.specs.Prelude.{◌≡◌, ◌*◌, ◌≤◌, ◌<◌, length};
 ghost use Rattle.words.specs.Inner.{Reciprocal};
 ghost use Rattle.cells.specs.Cells.{segment, cell_count, work_count, cell_of, Segment, value_at, map_value};

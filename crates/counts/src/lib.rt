@@ -3,6 +3,8 @@
 // places of the work hold the counts, and the next 3 * m the xors.
 //
 // Every function is proved and the crate assumes nothing.
+#![tactic(auto)]
+
 ghost use Rattle.std.specs.Prelude.{◌≡◌, ℕ, ◌+◌, ◌*◌, ◌<◌, ◌≤◌, length, get_or};
 ghost use Rattle.words.specs.Inner.{mixed_hash};
 ghost use Rattle.items.specs.Items.{items_of, Known};
@@ -14,7 +16,7 @@ use items::Items;
 
 // A map that is being built: its items over buckets of b rows, their mixed seed, the size m of its segments with its
 // reciprocal r, and the number t of its items.
-#[derive(Drop)]
+#[derive(Clone, Copy)]
 pub struct Map {
     pub which: Items,
     pub b: usize,
@@ -25,7 +27,7 @@ pub struct Map {
 }
 
 // The three cells that an item touches, one in each segment.
-#[derive(Drop)]
+#[derive(Clone, Copy)]
 pub struct Touched {
     pub first: usize,
     pub second: usize,

@@ -4,6 +4,8 @@
 //
 // Every function is proved and the crate assumes nothing. Its functions ask for a table and stores that were seen to
 // fit.
+#![tactic(auto)]
+
 ghost use Rattle.std.specs.Prelude.{◌≡◌, ◌+◌, ◌<◌, ◌≤◌, length};
 ghost use Rattle.words.specs.Fat.{Fattest};
 ghost use Rattle.tables.specs.Delimiters.{delimiters, Bucketed};
@@ -18,7 +20,7 @@ use words::fattest::fattest;
 use words::prefix::{prefix_item, shared_bits};
 
 // The node, its length, and document 01's upper less 1: the largest length that may still be probed.
-#[derive(Drop)]
+#[derive(Clone, Copy)]
 struct State {
     node: usize,
     lower: u32,
@@ -26,7 +28,7 @@ struct State {
 }
 
 // The node at which the probes end, its length, and how many they were.
-#[derive(Drop)]
+#[derive(Clone, Copy)]
 pub struct Descended {
     pub node: usize,
     pub lower: u32,

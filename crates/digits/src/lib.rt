@@ -1,8 +1,10 @@
 // Numbers as text (document 01, "`rowcheck`"): decimal without leading zeros, and 16 lower-case hexadecimal digits
-// (whose code stands in `hex`). They are read from a slice of bytes at a position and written there, each with the byte
+// (whose code stands in `hexdigits`). They are read from a slice of bytes at a position and written there, each with the byte
 // that ends it.
 //
 // Every function is proved and the crate assumes nothing. No public function has a `requires`.
+#![tactic(auto)]
+
 ghost use Rattle.std.specs.Prelude.{◌≡◌};
 ghost use Rattle.digits.specs.Texts.{next_or};
 ghost use Rattle.digits.specs.Numbers.{plainly};
@@ -11,14 +13,14 @@ pub mod decimal;
 pub mod put;
 
 // What a reader of a number found: its value, and the position after its text.
-#[derive(Drop)]
+#[derive(Clone, Copy)]
 pub enum Read {
     Value { value: u64, next: usize },
     Bad,
 }
 
 // What a reader of a decimal number of any size found. `Over` is a number above the limit.
-#[derive(Drop)]
+#[derive(Clone, Copy)]
 pub enum Amount {
     Is { value: u64, next: usize },
     Over { next: usize },
@@ -39,7 +41,7 @@ impl Amount {
 }
 
 // The position after a text that was found or written.
-#[derive(Drop)]
+#[derive(Clone, Copy)]
 pub enum Next {
     At(usize),
     Off,

@@ -2,6 +2,8 @@
 // peeled later.
 //
 // Every function is proved and the crate assumes nothing.
+#![tactic(auto)]
+
 ghost use Rattle.std.specs.Prelude.{◌≡◌, ◌*◌, ◌≤◌, ◌<◌, length};
 ghost use Rattle.jams.specs.Inner.Work.{Blank};
 ghost use Rattle.counts.specs.Inner.{AtTurn};

@@ -1,10 +1,12 @@
 // Writes what the full build says, what it leaves in its stores, and digests of what both indexes then answer
 // (docs/VECTORS.md).
+#![tactic(auto)]
+
 use samplings::builds::Profile;
-use samplings::{answers, refused, verdicts};
+use samplings::{answers, refused, verdict_lines};
 
 fn main() {
-    verdicts::print(Profile::Full);
+    verdict_lines::print(Profile::Full);
     refused::print(Profile::Full);
     answers::print(Profile::Full);
 }

@@ -1,8 +1,10 @@
 // Writes item hashes and their three cells for a spread of items, seeds and map sizes (docs/VECTORS.md).
+#![tactic(auto)]
+
 ghost use Rattle.std.specs.Prelude.{◌≤◌};
 ghost use Rattle.cells.specs.Cells.{Segment};
 
-use libc::STDOUT_FILENO;
+const STDOUT_FILENO: i32 = 1;
 
 // A space, and the cell of the hash in segment j.
 fn cell(h: u64, m: usize, j: usize)

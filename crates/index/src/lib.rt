@@ -4,6 +4,8 @@
 //
 // specs/Demands.antt states the customer's demands of these entries, specs/Slim.antt those on the slim profile, and
 // specs/Worked.antt the worked cases of document 01; proofs/ proves them.
+#![tactic(auto)]
+
 pub use call::{CallAnswer, call_ask};
 pub use callkey::{Fields, Packed, Unpacked, pack, unpack};
 pub use full::full_build;

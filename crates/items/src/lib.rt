@@ -3,6 +3,8 @@
 //
 // Every function is proved and the crate assumes nothing. `Known` is what the builds have tested, and the bounds that
 // they have written.
+#![tactic(auto)]
+
 ghost use Rattle.std.specs.Prelude.{◌≡◌, ◌+◌, ◌*◌, ◌/◌, ◌%◌, ◌≤◌, ◌<◌, length, get_or};
 ghost use Rattle.tables.specs.Delimiters.{buckets, delimiters};
 ghost use Rattle.tables.specs.Buckets.{bucket_length, bucket_prefix};
@@ -17,7 +19,7 @@ use words::prefix::prefix_item;
 
 // The map whose items are meant. The bucket size stands beside it: then nothing of which map it is goes through
 // memory for each item.
-#[derive(Drop)]
+#[derive(Clone, Copy)]
 pub enum Items {
     // Map 1, on the keys.
     Keys,

@@ -1,6 +1,8 @@
 // Writes what the packer and the unpacker say of fields and keys at, and one over, each limit (docs/VECTORS.md).
+#![tactic(auto)]
+
 use callkey::{Packed, Unpacked};
-use libc::STDOUT_FILENO;
+const STDOUT_FILENO: i32 = 1;
 
 fn refused() {
     io::write_all(STDOUT_FILENO, b"refused=7\n");

@@ -2,6 +2,8 @@
 //
 // Every function is proved and the crate assumes nothing. Each `requires` is a table and room that the builds have
 // tested.
+#![tactic(auto)]
+
 ghost use Rattle.std.specs.Prelude.{◌≡◌, ◌≤◌, length};
 ghost use Rattle.tables.specs.Delimiters.{delimiters, Bucketed};
 ghost use Rattle.splits.specs.Splits.{len, length_store};

@@ -2,11 +2,13 @@
 // from a slice of bytes at a position and written there; n lines of a kind are in `lists`.
 //
 // Every function is proved and the crate assumes nothing. No public function has a `requires`.
+#![tactic(auto)]
+
 pub mod line;
 pub mod text;
 
 // How a line's number is written: in decimal without leading zeros, or as 16 lower-case hexadecimal digits.
-#[derive(Drop)]
+#[derive(Clone, Copy)]
 pub enum Kind {
     Decimal,
     Hex,

@@ -15,7 +15,7 @@ pub fn read_line(s: &[u8], i: usize, tag: &[u8], kind: Kind, most: u64) -> Read
     };
     match kind {
         Kind::Decimal => digits::decimal::read_decimal(s, j, most, 10).plain(),
-        Kind::Hex => hex::read_hex(s, j, most, 10),
+        Kind::Hex => hexdigits::read_hex(s, j, most, 10),
     }
 }
 
@@ -49,6 +49,6 @@ pub fn write_line(out: &mut [u8], i: usize, tag: &[u8], kind: Kind, v: u64) -> N
     let j = text::write_bytes(out, i, tag).or(i);
     match kind {
         Kind::Decimal => digits::decimal::write_decimal(out, j, v, 10),
-        Kind::Hex => hex::write_hex(out, j, v, 10),
+        Kind::Hex => hexdigits::write_hex(out, j, v, 10),
     }
 }

@@ -1,6 +1,8 @@
 // n lines of one kind, one after the other: found, loaded into a slice, measured and written.
 //
 // Every function is proved and the crate assumes nothing. No public function has a `requires`.
+#![tactic(auto)]
+
 ghost use Rattle.digits.specs.Texts.{Writes};
 ghost use Rattle.lines.specs.Lines.{line, lines, Lined, Loads, Leaves};
 

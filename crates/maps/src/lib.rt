@@ -2,4 +2,6 @@
 //
 // Every function is proved and the crate assumes nothing. `build` asks for items that can be read and for memory of the
 // named lengths, which its callers have tested.
+#![tactic(auto)]
+
 pub mod build;

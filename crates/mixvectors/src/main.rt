@@ -1,5 +1,7 @@
 // Writes the first five outputs of SplitMix64 from the state 1234567, one to a line (docs/VECTORS.md).
-use libc::STDOUT_FILENO;
+#![tactic(auto)]
+
+const STDOUT_FILENO: i32 = 1;
 
 // The state after this one, once its output is written.
 fn step(state: u64) -> u64 {

@@ -4,6 +4,8 @@
 // Every function is proved and the crate assumes nothing. The entry `neighbour_ask` has no `requires`: whatever table
 // and stores it is lent, it answers or refuses as specs/Ask.antt says. `build` holds what the full
 // build and the slim one share, which asks for a table and stores that were judged.
+#![tactic(auto)]
+
 pub mod ask;
 pub mod build;
 

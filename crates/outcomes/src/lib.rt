@@ -3,19 +3,21 @@
 //
 // Every function is proved and the crate assumes nothing. `compared` takes whatever it is handed; `mark` asks for a
 // byte where it is handed a row.
+#![tactic(auto)]
+
 ghost use Rattle.std.specs.Prelude.{◌≡◌};
 ghost use Rattle.outcomes.specs.Outcomes.{row_says, marked, told_by};
 ghost use Rattle.outcomes.specs.Inner.{HasByte};
 
 // The row in which a key is found, if any. No byte is asked for that.
-#[derive(Drop)]
+#[derive(Clone, Copy)]
 pub enum Located {
     At(usize),
     Nowhere,
 }
 
 // What is answered of a key. A withdrawn run keeps its row.
-#[derive(Drop)]
+#[derive(Clone, Copy)]
 pub enum Outcome {
     Planned(usize),
     Withdrawn(usize),

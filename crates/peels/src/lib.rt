@@ -4,6 +4,8 @@
 // gets two, and after that the queue of those that have their turns.
 //
 // Every function is proved and the crate assumes nothing.
+#![tactic(auto)]
+
 ghost use Rattle.std.specs.Prelude.{◌+◌, ◌*◌, ◌<◌, ◌≤◌, length};
 ghost use Rattle.jams.specs.Inner.Work.{AllSeen, Tryable, CellTried};
 ghost use Rattle.counts.specs.Inner.{Ready, AtTurn};

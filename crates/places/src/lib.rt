@@ -4,6 +4,8 @@
 //
 // Every function is proved and the crate assumes nothing. Its functions ask for a table and stores that were seen to
 // fit.
+#![tactic(auto)]
+
 ghost use Rattle.std.specs.Prelude.{◌≡◌, ◌≤◌, ◌<◌, length};
 ghost use Rattle.tables.specs.Delimiters.{delimiters};
 ghost use Rattle.splits.specs.Inner.{SplitOf, CountOf};
@@ -18,14 +20,14 @@ use splits::split::{entry_at, length_at};
 use tables::delimiter::{delimiter_at, delimiter_count};
 
 // Where x stands: the keys before it, the probes made, and whether it is in the table.
-#[derive(Drop)]
+#[derive(Clone, Copy)]
 pub struct Place {
     pub before: usize,
     pub probes: usize,
     pub stands: bool,
 }
 
-#[derive(Drop)]
+#[derive(Clone, Copy)]
 pub enum NeighbourAnswer {
     At(Place),
     Refused(Refusal),

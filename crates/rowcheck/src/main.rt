@@ -5,6 +5,8 @@
 // (`WindowIsEnough` of rowanswer's specs). No text that is printed has more than 52,762 bytes (`LongestText`). What is
 // read and what is written no contract can say: `answer` is proved from slice to slice, and this program is run and
 // compared.
+#![tactic(auto)]
+
 fn main() {
     let mut input = [0u8; 53793];
     let mut out = [0u8; 65536];

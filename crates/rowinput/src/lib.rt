@@ -1,6 +1,8 @@
 // The input of `rowcheck` (document 01, "`rowcheck`"), a bucket size, keys and asks, read from a slice of bytes.
 //
 // Every function is proved and the crate assumes nothing. No public function has a `requires`.
+#![tactic(auto)]
+
 ghost use Rattle.rowinput.specs.Input.{ReadsInput};
 ghost use Rattle.rowinput.specs.Inner.{LoadsList};
 
@@ -9,7 +11,7 @@ use lines::{Kind, line};
 use refusals::Refusal;
 
 // What an input is: a bucket size and how many keys and asks were put into the lent slices; or refusal 8.
-#[derive(Drop)]
+#[derive(Clone, Copy)]
 pub enum Input {
     Taken {
         bucket: usize,
@@ -23,7 +25,7 @@ pub enum Input {
 const WORD: u64 = 0xffff_ffff_ffff_ffff;
 
 // A count line and that many lines: how many, and where they end.
-#[derive(Drop)]
+#[derive(Clone, Copy)]
 enum Listed {
     Lines { n: usize, end: usize },
     None,

@@ -2,6 +2,8 @@
 // slice of bytes, or nothing where there is no room for all of them.
 //
 // Every function is proved and the crate assumes nothing. No public function has a `requires`.
+#![tactic(auto)]
+
 ghost use Rattle.std.specs.Prelude.{◌≡◌, ◌≤◌, length};
 ghost use Rattle.digits.specs.Texts.{Writes};
 ghost use Rattle.refusals.specs.Numbers.{number};
@@ -12,7 +14,7 @@ use lines::{Kind, line, text};
 use refusals::Refusal;
 
 // What the call index says of an ask.
-#[derive(Drop)]
+#[derive(Clone, Copy)]
 pub enum Called {
     Row(usize),
     Absent,

@@ -3,6 +3,8 @@
 //
 // Every function is proved and the crate assumes nothing. No public function has a `requires`; where the contract is
 // empty, a program shows what the function does by comparing what it prints.
+#![tactic(auto)]
+
 pub mod answer;
 pub mod store;
 pub mod table;

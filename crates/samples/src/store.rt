@@ -6,7 +6,7 @@ use words::hash::mix;
 
 // Each entry i from `from` on and below `end` is to hold base + (mix(i + add) mod (most + 1)), of which a byte takes
 // the lower half; but 0 where mix(i + 23) mod (rare + 1) is above 0.
-#[derive(Drop)]
+#[derive(Clone, Copy)]
 pub struct Part {
     from: usize,
     end: usize,

@@ -5,7 +5,7 @@ use std::num::wrapping_add_u64;
 use words::hash::mix;
 use words::product::wrapping_mul;
 
-#[derive(Drop)]
+#[derive(Clone, Copy)]
 pub enum Sample {
     Sequential,
     Spread,
@@ -14,7 +14,7 @@ pub enum Sample {
 }
 
 // How the keys stand in the rows: key i in row i, or the first n turned round.
-#[derive(Drop)]
+#[derive(Clone, Copy)]
 pub enum Order {
     Rising,
     Turned(usize),

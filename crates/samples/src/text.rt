@@ -1,8 +1,9 @@
 // The words that the programs print.
 use crate::table::Sample;
-use libc::STDOUT_FILENO;
 use outcomes::Outcome;
 use refusals::{Refusal, Verdict};
+
+const STDOUT_FILENO: i32 = 1;
 
 pub fn word(w: &[u8]) {
     io::write_all(STDOUT_FILENO, w);

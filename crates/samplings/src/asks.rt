@@ -14,7 +14,7 @@ use words::product::wrapping_mul;
 
 // What is looked at, in buckets of so many rows: the outcomes of the call index, the places of the neighbour index, and
 // the outcomes and the places of the slim profile.
-#[derive(Drop)]
+#[derive(Clone, Copy)]
 enum Index {
     Call(usize),
     Neighbour,
@@ -24,7 +24,7 @@ enum Index {
 
 // An answer as a number, and what is counted of it: one for a row that was found, or the probes; and one for a row that
 // is withdrawn.
-#[derive(Drop)]
+#[derive(Clone, Copy)]
 struct Answer {
     number: u64,
     count: u64,
@@ -32,7 +32,7 @@ struct Answer {
 }
 
 // The sum and the largest of the counts, the withdrawn rows, and the digest of all answers.
-#[derive(Drop)]
+#[derive(Clone, Copy)]
 struct Tally {
     sum: u64,
     most: u64,

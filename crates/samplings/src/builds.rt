@@ -6,14 +6,14 @@ use samples::store::{first, first_bytes, first_bytes_mut, first_mut, mixed};
 use stores::Sizes;
 
 // The full build, or the slim one.
-#[derive(Drop)]
+#[derive(Clone, Copy)]
 pub enum Profile {
     Full,
     Slim,
 }
 
 // What a build says, and the digest of what it leaves.
-#[derive(Drop)]
+#[derive(Clone, Copy)]
 pub struct Trial {
     pub said: Verdict,
     pub digest: u64,
@@ -112,7 +112,7 @@ pub fn tried(
 }
 
 // What the build says, and the root that it leaves in entry 0 of `left`.
-#[derive(Drop)]
+#[derive(Clone, Copy)]
 struct Rooted {
     said: Verdict,
     root: u16,

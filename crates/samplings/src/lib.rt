@@ -5,10 +5,12 @@
 //
 // Every function is proved and the crate assumes nothing. The contracts are empty but for a `requires` that bounds a
 // number of keys, and the programs show what the functions do by comparing what they print.
+#![tactic(auto)]
+
 pub mod answers;
 pub mod asks;
 pub mod builds;
 pub mod refused;
 pub mod spoiled;
 pub mod told;
-pub mod verdicts;
+pub mod verdict_lines;

@@ -14,7 +14,7 @@ use stores::Sizes;
 
 // How much of each store and of the row bytes is lent, the byte of row 5 and that of all the other rows. A byte beyond
 // the 17 rows is 255.
-#[derive(Drop)]
+#[derive(Clone, Copy)]
 struct Lent {
     sizes: Sizes,
     byte: u16,

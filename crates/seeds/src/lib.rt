@@ -2,6 +2,8 @@
 // same for all maps, in stores as long as 2,048 keys can want.
 //
 // Every function is proved and the crate assumes nothing.
+#![tactic(auto)]
+
 ghost use Rattle.std.specs.Prelude.{◌≤◌, length};
 ghost use Rattle.stores.specs.Stores.{asked};
 ghost use Rattle.seeds.specs.Inner.{SeedTried, Chose};
@@ -10,7 +12,7 @@ use index::{Refusal, Verdict};
 
 // A seed; or the refusal of the table, whatever the seed; or, where all seeds jam, the size of the largest jam of the
 // first jammed map under the last one.
-#[derive(Drop)]
+#[derive(Clone, Copy)]
 pub enum Choice {
     Seed(u64),
     Refused(Refusal),

@@ -4,6 +4,8 @@
 //
 // Every function is proved and the crate assumes nothing. The entry `slim_build` has no `requires`: whatever table,
 // stores and seeds it is lent, it builds or refuses as specs/Build.antt says.
+#![tactic(auto)]
+
 ghost use Rattle.refusals.specs.Numbers.{said_by_build};
 ghost use Rattle.stores.specs.Stores.{lent};
 ghost use Rattle.items.specs.Items.{Sorted, offset_values};

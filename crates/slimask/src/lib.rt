@@ -2,6 +2,8 @@
 // of x, one map on all keys gives its offset there, and the table's key in that row decides.
 //
 // Every function is proved and the crate assumes nothing. `slim_ask` takes whatever it is handed.
+#![tactic(auto)]
+
 ghost use Rattle.std.specs.Prelude.{◌≡◌};
 ghost use Rattle.tables.specs.Delimiters.{delimiters};
 ghost use Rattle.stores.specs.Stores.{asked};
@@ -16,7 +18,7 @@ use stores::{Judged, Sizes};
 
 // What is answered of a key, and its place among the delimiters: those before it, the probes made, and whether it is
 // one of them.
-#[derive(Drop)]
+#[derive(Clone, Copy)]
 pub enum SlimAnswer {
     Told(Outcome, Place),
     Refused(Refusal),

@@ -3,6 +3,8 @@
 //
 // Every function is proved and the crate assumes nothing. `slim_lengths` takes whatever it is handed; the others ask
 // for a table and a bucket size within their limits.
+#![tactic(auto)]
+
 ghost use Rattle.std.specs.Prelude.{◌≡◌, ◌≤◌};
 ghost use Rattle.stores.specs.Sizes.{said_by_lend};
 ghost use Rattle.slimstores.specs.Sizes.{slim_sizes, slim_build_sizes, slim_ask_sizes, slim_lengths};

@@ -3,6 +3,8 @@
 //
 // Every function is proved and the crate assumes nothing. `limits`, `named_lengths`, `short_store` and `judge` take
 // whatever they are handed; the others ask for sizes that their callers have tested.
+#![tactic(auto)]
+
 ghost use Rattle.std.specs.Prelude.{◌≡◌, ◌≤◌};
 ghost use Rattle.refusals.specs.Numbers.{taken, refused};
 ghost use Rattle.stores.specs.Limits.{limited};
@@ -16,7 +18,7 @@ use tables::table::first_fall;
 
 // How long each store is, or has to be, in the order in which refusal 4 names them, from 1 on: 0 where an entry has no
 // such store.
-#[derive(Drop)]
+#[derive(Clone, Copy)]
 pub struct Sizes {
     pub cells: usize,
     pub handles: usize,
@@ -28,14 +30,14 @@ pub struct Sizes {
 }
 
 // What a caller has to lend, or the refusal that a build would give whatever is lent.
-#[derive(Drop)]
+#[derive(Clone, Copy)]
 pub enum Lend {
     Sizes(Sizes),
     Refused(Refusal),
 }
 
 // What is said of a build before it builds, or of an ask before it looks.
-#[derive(Drop)]
+#[derive(Clone, Copy)]
 pub enum Judged {
     Passed,
     Refused(Refusal),

@@ -3,6 +3,8 @@
 //
 // Every function is proved and the crate assumes nothing. `settle` asks for stores whose lengths its callers have
 // tested.
+#![tactic(auto)]
+
 ghost use Rattle.std.specs.Prelude.{◌≡◌};
 ghost use Rattle.refusals.specs.Numbers.{said_by_build};
 ghost use Rattle.stores.specs.Sizes.{Fits};
@@ -15,7 +17,7 @@ use stores::Sizes;
 
 // What building the maps of an index comes to: all maps are there; or the first that has a jam, and the size of its
 // largest jam.
-#[derive(Drop)]
+#[derive(Clone, Copy)]
 pub enum Maps {
     Built,
     Jammed { map: u8, size: usize },

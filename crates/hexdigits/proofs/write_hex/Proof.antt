@@ -1,8 +1,8 @@
--- `hex::write_hex` meets its contract: it is the call's own. Assumes nothing.
+-- `hexdigits::write_hex` meets its contract: it is the call's own. Assumes nothing.
 use borrow.Author.Rules.{rules}
 use Rattle.digits.specs.Numbers.{hex_text}
-use Rattle.hex.proofs.write_hex.Statement.{statement}
-use Rattle.hex.proofs.write_hex.Tie as tie
+use Rattle.hexdigits.proofs.write_hex.Statement.{statement}
+use Rattle.hexdigits.proofs.write_hex.Tie as tie
 
 returns : tie.Need-returns
 unfolding hex_text

@@ -1,7 +1,7 @@
--- `samplings::verdicts::print_seeds` is safe and ends. The measure is how many seeds are left. Assumes nothing.
+-- `samplings::verdict_lines::print_seeds` is safe and ends. The measure is how many seeds are left. Assumes nothing.
 use Rattle.std.proofs.Common.{◌-◌, ◌≤◌, rules}
-use Rattle.samplings.proofs.verdicts.print_seeds.Statement.{statement}
-use Rattle.samplings.proofs.verdicts.print_seeds.Tie as tie
+use Rattle.samplings.proofs.verdict_lines.print_seeds.Statement.{statement}
+use Rattle.samplings.proofs.verdict_lines.print_seeds.Tie as tie
 
 abbrev invariant-loop : tie.invariant-loop
 invariant-loop profile keys b seed₀ seed = seed ≤ 16

@@ -1,9 +1,9 @@
--- `hex::hex_value` meets its contract: two ranges of bytes are digits, the three others none. Assumes nothing.
+-- `hexdigits::hex_value` meets its contract: two ranges of bytes are digits, the three others none. Assumes nothing.
 use native.Mathlib.Omega.{arith}
 use borrow.Author.Rules.{rules}
 use Rattle.digits.proofs.Hexes.{hexes_low, hexes_high, hexes_none}
-use Rattle.hex.proofs.hex_value.Statement.{statement}
-use Rattle.hex.proofs.hex_value.Tie as tie
+use Rattle.hexdigits.proofs.hex_value.Statement.{statement}
+use Rattle.hexdigits.proofs.hex_value.Tie as tie
 
 returns : tie.Need-returns
 returns c = hexes_none _ _ c.before.wide.ensures (omega arith) (omega arith)

@@ -1,6 +1,8 @@
 // Numbers as 16 lower-case hexadecimal digits, read from a slice of bytes and written to one.
 //
 // Every function is proved and the crate assumes nothing. No public function has a `requires`.
+#![tactic(auto)]
+
 ghost use Rattle.digits.specs.Texts.{Reads, Writes};
 ghost use Rattle.digits.specs.Numbers.{hex_text, ended};
 ghost use Rattle.digits.specs.Inner.{Hexes};

@@ -1,4 +1,4 @@
--- `hex::read_hex` meets its contract. The loop's invariant: v is the number of the k digits passed. The measure
+-- `hexdigits::read_hex` meets its contract. The loop's invariant: v is the number of the k digits passed. The measure
 -- is how many digits are left. Assumes nothing.
 use native.Mathlib.Omega.{arith}
 use borrow.Author.Rules.{rules}
@@ -8,8 +8,8 @@ use lib.Seq.{slice}
 use Rattle.digits.specs.Numbers.{digits_in}
 use Rattle.digits.proofs.Hexes.{hex_start, hex_step, hex_below, hex_fits}
 use Rattle.digits.proofs.Hexes.{hex_short, hex_none, hex_open, hex-over, hex-value-is}
-use Rattle.hex.proofs.read_hex.Statement.{statement}
-use Rattle.hex.proofs.read_hex.Tie as tie
+use Rattle.hexdigits.proofs.read_hex.Statement.{statement}
+use Rattle.hexdigits.proofs.read_hex.Tie as tie
 
 abbrev invariant-loop : tie.invariant-loop
 invariant-loop s i most end k₀ v₀ k v = (k ≤ 16) × (digits_in 16 k v ≡ slice i (i + k) s) × (v < 16 ^ k)
