@@ -8,22 +8,23 @@ use Rattle.stores.proofs.Limiting.{Within, within, limits_passed, limits_refused
 use Rattle.stores.proofs.named_lengths.Statement.{statement}
 use Rattle.stores.proofs.named_lengths.Tie as tie
 
-passed : (t : tie.After-enum-told) → let a = t.before.before.before.args in Within a.n a.b
-passed t = limits_passed _ _ (sym (ap said_by_judge t.enum_told.given.1) ∙ t.before.before.limits.ensures)
+passed : (t : tie.In-Passed) → let a = t.args in Within a.n a.b
+passed t = limits_passed _ _ (sym (ap said_by_judge t.in-Passed.is) ∙ t.limits.ensures)
 
-store-sizes-requires : tie.Need-store-sizes-requires
+store-sizes-requires : tie.Need-store_sizes-requires
 store-sizes-requires c κs = let W = passed c in (omega (arith, W.two), W.most, W.few)
 
-returns : tie.Need-returns
+returns : tie.Need-returns-in-Refused
 unfolding named_lengths
 returns c =
-    let r = c.before in
-    sym (limits_refused _ _ refused _ (sym (ap said_by_judge r.refusal.given.1) ∙ r.before.before.limits.ensures))
+    let r = c in
+    sym (limits_refused _ _ refused _ (sym (ap said_by_judge r.in-Refused.is) ∙ r.limits.ensures))
 
-returns-2 : tie.Need-returns-2
+returns-2 : tie.Need-returns-in-Passed
 unfolding named_lengths
-returns-2 c = ap sizes c.store-sizes.ensures ∙ sym (within refused _ _ (passed c.before) refl)
+returns-2 c = ap sizes c.store_sizes.ensures ∙ sym (within refused _ _ (passed c.before) refl)
 
-pub named-lengths-spec : {M : Type 1} → statement M
-named-lengths-spec =
-    tie.close (tie.spec (λ c. search rules) (λ c. search rules) (λ c. search rules) store-sizes-requires returns returns-2)
+pub named_lengths_spec : {M : Type 1} → statement M
+named_lengths_spec =
+    tie.close
+    (tie.spec (λ c. search rules) (λ c. search rules) (λ c. search rules) store-sizes-requires returns returns-2)

@@ -11,11 +11,13 @@ ends : (c : tie.Start) → let a = c.args in let end = bucket_end a.n a.b a.i in
     (a.i * a.b < end) × (end ≤ a.n)
 ends c = bucket_ends c.args.n c.args.b c.args.i c.requires.0 c.requires.3
 
-returns : tie.Need-returns
+returns : tie.Need-returns-then-end-n
 returns c = let s = c.before in omega (arith, ends s, next_row s.args.i s.args.b)
 
-returns-2 : tie.Need-returns-2
+returns-2 : tie.Need-returns
 returns-2 c = let s = c.before in omega (arith, ends s, next_row s.args.i s.args.b)
 
-pub bucket-end-spec : {M : Type 1} → statement M
-bucket-end-spec = tie.close (tie.spec (λ c. omega (arith, ends c)) (λ c. omega (arith, ends c)) returns returns-2)
+pub bucket_end_spec : {M : Type 1} → statement M
+bucket_end_spec =
+    tie.close
+    (tie.spec (λ c. omega (arith, ends c)) (λ c. omega (arith, ends c)) returns returns-2)

@@ -20,32 +20,32 @@ begins : (c : tie.Start) → c.args.i * c.args.b < length c.args.keys.now
 begins c = bucket_begins (length c.args.keys.now) c.args.b c.args.i c.requires.0.some (there c)
 
 -- with buckets of one row
-one : (c : tie.Then1) → c.before.args.i < length c.before.args.keys.now
-one c = rw (delimiters_all c.before.args.keys.now c.if1.true) at c.before.requires.1
+one : (c : tie.Then-b-eq1) → c.args.i < length c.args.keys.now
+one c = rw (delimiters_all c.args.keys.now c.if-b-eq1.true) at c.requires.1
 
-returns : tie.Need-returns
+returns : tie.Need-returns-then-b-eq1
 returns c =
     let s = c.before.before in
-    ap (λ (T : List ℕ). key_at T s.args.i) (sym (delimiters_all s.args.keys.now c.before.if1.true))
+    ap (λ (T : List ℕ). key_at T s.args.i) (sym (delimiters_all s.args.keys.now c.if-b-eq1.true))
 
-returns-2 : tie.Need-returns-2
+returns-2 : tie.Need-returns-then-end-n
 returns-2 c =
     let s = c.before.before.before in
     let keys = s.args.keys.now in
-    ap (key_at keys) (row_inner (length keys) s.args.b s.args.i (omega (arith, c.before.if2.true)))
+    ap (key_at keys) (row_inner (length keys) s.args.b s.args.i (omega (arith, c.if-end-n.true)))
     ∙ sym (delimiter_is s.args.b keys s.args.i (there s))
 
-returns-3 : tie.Need-returns-3
+returns-3 : tie.Need-returns
 returns-3 c =
     let s = c.before.before.before in
     let keys = s.args.keys.now in
-    ap (key_at keys) (row_last (length keys) s.args.b s.args.i (omega (arith, c.before.if2.false)))
+    ap (key_at keys) (row_last (length keys) s.args.b s.args.i (omega (arith, c.if-end-n.false)))
     ∙ sym (delimiter_is s.args.b keys s.args.i (there s))
 
-pub delimiter-at-spec : {M : Type 1} → statement M
-delimiter-at-spec =
+pub delimiter_at_spec : {M : Type 1} → statement M
+delimiter_at_spec =
     tie.close
     (tie.spec (λ c. omega (arith, one c)) (λ c. omega (arith, one c.before)) returns
     (λ c. omega (arith, begins c.before)) (λ c. omega (arith, begins c.before)) (λ c. search rules)
-    (λ c. search rules) (λ c. search rules) returns-2 (λ c. omega (arith, begins c.before.before))
-    (λ c. search rules) (λ c. omega (arith, begins c.before.before.before)) returns-3)
+    (λ c. search rules) (λ c. search rules) returns-2 (λ c. omega (arith, begins c.before.before)) (λ c. search rules)
+    (λ c. omega (arith, begins c.before.before.before)) returns-3)

@@ -2,41 +2,33 @@
 -- Assumes nothing.
 use mathlib.Core.Path.{◌≡◌, sym}
 use native.Mathlib.Omega.{arith}
-use borrow.Author.Rules.{rules}
 use lib.ListN.{length}
 use Rattle.tables.specs.Buckets.{bucket_length}
 use Rattle.tables.proofs.Delimiting.{bucket_begins}
 use Rattle.tables.proofs.Bucketing.{length-one, length_more, length-small}
-use Rattle.tables.proofs.bucket.bucket_length.Statement.{statement}
-use Rattle.tables.proofs.bucket.bucket_length.Tie as tie
+use Rattle.tables.proofs.bucket.bucket_length.Goals as goal
 
-mul-first : tie.Need-overflow-mul-first
-mul-first c =
+pub overflow_mul-first : goal.overflow_mul-first
+overflow_mul-first c =
     let s = c.before in
     omega (arith, bucket_begins (length s.args.keys.now) s.args.b s.args.i s.requires.1.some s.requires.2)
 
-returns : tie.Need-returns
-returns c =
+pub returns-then-first-last : goal.returns-then-first-last
+returns-then-first-last c =
     let s = c.before.before.before in
     let one =
     length-one s.args.keys.now s.requires.0 s.args.b s.args.i s.requires.1.some s.requires.2
     (omega arith) in
     (sym one, omega arith)
 
-returns-2 : tie.Need-returns-2
-returns-2 c =
+pub returns : goal.returns
+returns c =
     let ended = c.before.before.before.before in
     let s = ended.before.before in
     let more =
     length_more s.args.keys.now s.requires.0 s.args.b s.args.i s.requires.1.some s.requires.2
     (omega arith) in
     let small = length-small s.args.keys.now s.requires.0 s.args.b s.args.i s.requires.1.some s.requires.2 in
-    let is : c.shared-bits.result ≡ bucket_length s.args.b s.args.keys.now s.args.i =
-    rw (ended.bucket-end.ensures.0, ← more) at c.shared-bits.ensures in
+    let is : c.shared_bits.result ≡ bucket_length s.args.b s.args.keys.now s.args.i =
+    rw (ended.bucket_end-last.ensures.0, ← more) at c.shared_bits.ensures in
     (is, rw is small)
-
-pub bucket-length-spec : {M : Type 1} → statement M
-bucket-length-spec =
-    tie.close
-    (tie.spec mul-first (λ c κs. search rules) (λ c. search rules) returns (λ c. search rules)
-    (λ c. search rules) (λ c. search rules) (λ c. search rules) (λ c κs. search rules) returns-2)

@@ -3,25 +3,23 @@
 use mathlib.Core.Path.{ap}
 use Prim.Native.Nat.{◌-◌, ◌^◌}
 use native.Mathlib.Omega.{arith}
-use borrow.Author.Rules.{rules}
 use borrow.Author.Tests.{lt-ltb, le-ltb}
 use Rattle.callkey.specs.CallKeys.{key, last_second, pack_says}
-use Rattle.callkey.proofs.pack.Statement.{statement}
-use Rattle.callkey.proofs.pack.Tie as tie
+use Rattle.callkey.proofs.pack.Goals as goal
 
-returns : tie.Need-returns
+pub returns-then-day-gt65535 : goal.returns-then-day-gt65535
 unfolding pack_says
-returns c = rw (lt-ltb (2 ^ 16 - 1) c.before.args.day (omega arith))
+returns-then-day-gt65535 c = rw (lt-ltb (2 ^ 16 - 1) c.before.args.day (omega arith))
 
-returns-2 : tie.Need-returns-2
+pub returns-then-stop-gt65535 : goal.returns-then-stop-gt65535
 unfolding pack_says
-returns-2 c =
+returns-then-stop-gt65535 c =
     let a = c.before.before.args in
     rw (le-ltb (2 ^ 16 - 1) a.day (omega arith), lt-ltb (2 ^ 16 - 1) a.stop (omega arith))
 
-returns-3 : tie.Need-returns-3
+pub returns-then-second-gt-LAST_SECOND : goal.returns-then-second-gt-LAST_SECOND
 unfolding pack_says
-returns-3 c =
+returns-then-second-gt-LAST_SECOND c =
     let a = c.before.before.before.args in
     rw (
       le-ltb (2 ^ 16 - 1) a.day (omega arith),
@@ -29,9 +27,9 @@ returns-3 c =
       lt-ltb last_second a.second (omega arith),
     )
 
-returns-4 : tie.Need-returns-4
+pub returns-then-block-gt32767 : goal.returns-then-block-gt32767
 unfolding pack_says
-returns-4 c =
+returns-then-block-gt32767 c =
     let a = c.before.before.before.before.args in
     rw (
       le-ltb (2 ^ 16 - 1) a.day (omega arith),
@@ -40,9 +38,9 @@ returns-4 c =
       lt-ltb (2 ^ 15 - 1) a.block (omega arith),
     )
 
-returns-5 : tie.Need-returns-5
+pub returns : goal.returns
 unfolding pack_says
-returns-5 c =
+returns c =
     let a = c.before.before.before.before.args in
     rw (
       le-ltb (2 ^ 16 - 1) a.day (omega arith),
@@ -50,9 +48,3 @@ returns-5 c =
       le-ltb last_second a.second (omega arith),
       le-ltb (2 ^ 15 - 1) a.block (omega arith),
     ) (ap key (omega arith))
-
-pub pack-spec : {M : Type 1} → statement M
-pack-spec =
-    tie.close
-    (tie.spec returns returns-2 returns-3 returns-4 (λ c. search rules) (λ c. search rules) (λ c. search rules)
-    (λ c. search rules) (λ c. search rules) (λ c. search rules) returns-5)
