@@ -11,32 +11,30 @@ use borrow.Author.Rules.{rules}
 use Rattle.bounds.proofs.build_bounds.Statement.{statement}
 use Rattle.bounds.proofs.build_bounds.Tie as tie
 
-returns : tie.Need-returns
+returns : tie.Need-returns-then-n-eq0
 returns c =
-    let a = c.before.before.before.before.before.args in
+    let a = c.args in
     let T = delimiters a.b a.keys.now in
     let none : length T ≡ 0 = omega arith in
     (wrote_nothing (length T) (left_entry T) a.left.now none, wrote_nothing (length T) (right_entry T) a.right.now none)
 
-returns-2 : tie.Need-returns-2
+returns-2 : tie.Need-returns
 returns-2 c =
     let p = c.before.before.before.before.before.before.before.before.before.before in
-    let a = p.before.before.before.before.args in
+    let a = p.args in
     let T = delimiters a.b a.keys.now in
-    let n = p.delimiter-count in
-    let l = c.before.before.before.before.before.before.before.fill-left in
-    let r = c.before.before.before.fill-right in (
-      wrote_first n.result (length T) (left_entry T) a.left.now l.new.1.1.1.0 c.root-of.result
+    let n = p.delimiter_count-n in
+    (
+      wrote_first n.result (length T) (left_entry T) a.left.now c.fill_left.new.left c.root_of-r.result
           n.ensures.0 (omega arith) (omega arith)
-          l.auto.1.1.1.0 (c.root-of.ensures.0 ∙ sym (left_root T)) l.ensures,
-      wrote_first n.result (length T) (right_entry T) a.right.now r.new.1.1.1.0 0 n.ensures.0
+          c.fill_left.auto.left (c.root_of-r.ensures.0 ∙ sym (left_root T)) c.fill_left.ensures,
+      wrote_first n.result (length T) (right_entry T) a.right.now c.fill_right.new.right 0 n.ensures.0
           (omega arith) (omega arith)
-          r.auto.1.1.1.0 (sym (right_root T)) r.ensures,
+          c.fill_right.auto.right (sym (right_root T)) c.fill_right.ensures,
     )
 
-pub build-bounds-spec : {M : Type 1} → statement M
-build-bounds-spec =
+pub build_bounds_spec : {M : Type 1} → statement M
+build_bounds_spec =
     tie.close
-    (tie.spec (λ c κs. search rules) returns (λ c κs. search rules) (λ c κs. search rules)
-    (λ c κs. search rules) (λ c. search rules) (λ c. search rules) (λ c. search rules) (λ c. search rules)
-    (λ c. search rules) returns-2)
+    (tie.spec (λ c κs. search rules) returns (λ c κs. search rules) (λ c κs. search rules) (λ c κs. search rules)
+    (λ c. search rules) (λ c. search rules) (λ c. search rules) (λ c. search rules) (λ c. search rules) returns-2)

@@ -11,65 +11,65 @@ use Rattle.splits.proofs.Jumping.{goes_split, right_turn, right_stop}
 use Rattle.bounds.proofs.jump_right.Statement.{statement}
 use Rattle.bounds.proofs.jump_right.Tie as tie
 
-abbrev invariant-loop : tie.invariant-loop
+abbrev invariant-loop : tie.invariant-loop-j
 invariant-loop keys b n rights m l j₀ j = (m < j) × (j ≤ right (delimiters b keys) m)
 
-abbrev decreases-loop : tie.decreases-loop
+abbrev decreases-loop : tie.decreases-loop-j
 decreases-loop keys b n rights m l j₀ j = n - j
 
-loop-holds : tie.Need-loop-init invariant-loop decreases-loop
+loop-holds : tie.Need-loop-j-init invariant-loop decreases-loop
 loop-holds c =
     let s = c.before.before.before in
     let split = s.requires.0.split in
     let T = delimiters s.args.b s.args.keys.now in
     omega (arith, right-gt T s.requires.0.table s.args.m split.pos split.small)
 
-goes-on-right-requires : tie.Need-goes-on-right-requires invariant-loop decreases-loop
-goes-on-right-requires c κs = (c.before.before.before.before.requires.1, omega arith)
+goes-on-right-requires : tie.Need-goes_on_right-requires invariant-loop decreases-loop
+goes-on-right-requires c κs = (c.requires.1, omega arith)
 
-entry-at-requires : tie.Need-entry-at-requires invariant-loop decreases-loop
+entry-at-requires : tie.Need-entry_at-j-requires invariant-loop decreases-loop
 entry-at-requires c κs =
     let s = c.before.before.before.before.before.before in
-    let l = c.before.before.before.len-at in
+    let l = c.len_at-l in
     let on =
     goes_split s.args.b s.args.keys.now s.args.m l.result s.requires.0 l.ensures
-    c.before.before.loop.j
-    c.before.goes-on-right.ensures c.if1.true in
+    c.loop-j.j
+    c.goes_on_right.ensures c.loop-j-test.true in
     omega arith
 
 -- where a turn goes
-went : (c : tie.After-entry-at invariant-loop decreases-loop)
-    → let a = c.before.before.before.before.before.before.before.args in
+went : (c : tie.After-entry_at-j invariant-loop decreases-loop)
+    → let a = c.args in
     let T = delimiters a.b a.keys.now in
-    let j = c.before.before.before.loop.j in
-    (j < c.entry_at.result) × (j < length T) × (c.entry_at.result ≤ right T a.m)
+    let j = c.loop-j.j in
+    (j < c.entry_at-j.result) × (j < length T) × (c.entry_at-j.result ≤ right T a.m)
 went c =
     let s = c.before.before.before.before.before.before.before in
-    let turn = c.before.before.before.loop in
-    let l = c.before.before.before.before.len-at in
+    let turn = c.loop-j in
+    let l = c.len_at-l in
     right_turn s.args.b s.args.keys.now s.args.m l.result s.requires.0 l.ensures turn.j
-    c.before.before.goes-on-right.ensures
-    c.entry_at.result c.before.if1.true turn.invariant.0 turn.invariant.1
-    (λ small. c.entry_at.ensures ∙ s.requires.2.entries turn.j (omega arith) (omega arith))
+    c.goes_on_right.ensures
+    c.entry_at-j.result c.loop-j-test.true turn.invariant.0 turn.invariant.1
+    (λ small. c.entry_at-j.ensures ∙ s.requires.2.entries turn.j (omega arith) (omega arith))
 
-loop-again : tie.Need-loop-preserved invariant-loop decreases-loop
+loop-again : tie.Need-loop-j-preserved invariant-loop decreases-loop
 loop-again c = omega (arith, went c)
 
 returns : tie.Need-returns invariant-loop decreases-loop
 returns c =
     let s = c.before.before.before.before.before.before in
-    let turn = c.before.before.loop in
-    let l = c.before.before.before.len-at in
+    let turn = c.loop-j in
+    let l = c.len_at-l in
     let split = s.requires.0.split in
     let last =
     right_le (delimiters s.args.b s.args.keys.now) s.requires.0.table s.args.m split.pos
     split.small in
     let stop = right_stop s.args.b s.args.keys.now s.args.m l.result s.requires.0 l.ensures turn.j
-    c.before.goes-on-right.ensures c.if1.false turn.invariant.0 turn.invariant.1 in
+    c.goes_on_right.ensures c.loop-j-test.false turn.invariant.0 turn.invariant.1 in
     (stop, omega arith)
 
-pub jump-right-spec : {M : Type 1} → statement M
-jump-right-spec =
+pub jump_right_spec : {M : Type 1} → statement M
+jump_right_spec =
     tie.close
-    (tie.spec invariant-loop decreases-loop (λ c κs. c.before.before.requires.0.split) (λ c. omega arith) loop-holds
+    (tie.spec invariant-loop decreases-loop (λ c κs. c.requires.0.split) (λ c. omega arith) loop-holds
     goes-on-right-requires entry-at-requires (λ c. omega (arith, went c)) loop-again returns)

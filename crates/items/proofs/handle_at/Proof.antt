@@ -7,7 +7,7 @@ use Rattle.items.proofs.Handling.{delimiters_few, split-beside, split-bounded}
 use Rattle.items.proofs.handle_at.Statement.{statement}
 use Rattle.items.proofs.handle_at.Tie as tie
 
-split : (c : tie.After-split-at) → let a = c.before.before.before.before.args in
+split : (c : tie.After-split_at) → let a = c.args in
     c.split_at.result ≡ handle_split (delimiters a.b a.keys.now) a.i
 split c =
     let s = c.before.before.before.before in
@@ -15,13 +15,13 @@ split c =
     ∙ split-beside s.args.b s.args.keys.now s.args.left.now s.args.right.now s.requires.0
     s.args.i s.requires.1
 
-split-at-requires : tie.Need-split-at-requires
+split-at-requires : tie.Need-split_at-requires
 split-at-requires c κs =
     let s = c.before.before.before in
     let few = delimiters_few s.args.b s.args.keys.now s.args.left.now s.args.right.now s.requires.0 in
     (omega arith, omega arith)
 
-handle-item-requires : tie.Need-handle-item-requires
+handle-item-requires : tie.Need-handle_item-requires
 handle-item-requires c κs =
     let s = c.before.before.before.before in
     let bounded =
@@ -30,7 +30,9 @@ handle-item-requires c κs =
     rw (split c) bounded
 
 returns : tie.Need-returns
-returns c = rw (← (split c.before)) c.handle-item.ensures
+returns c = rw (← (split c.before)) c.handle_item.ensures
 
-pub handle-at-spec : {M : Type 1} → statement M
-handle-at-spec = tie.close (tie.spec split-at-requires handle-item-requires returns)
+pub handle_at_spec : {M : Type 1} → statement M
+handle_at_spec =
+    tie.close
+    (tie.spec split-at-requires handle-item-requires returns)

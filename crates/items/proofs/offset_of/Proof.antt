@@ -10,5 +10,7 @@ use Rattle.items.proofs.offset_of.Tie as tie
 small : (c : tie.Start) → c.args.r % c.args.b < 256
 small c = offset_small c.args.b c.args.r c.requires.0 c.requires.1
 
-pub offset-of-spec : {M : Type 1} → statement M
-offset-of-spec = tie.close (tie.spec (λ c. search rules) (λ c. omega (arith, small c)) (λ c. (refl, small c)))
+pub offset_of_spec : {M : Type 1} → statement M
+offset_of_spec =
+    tie.close
+    (tie.spec (λ c. search rules) (λ c. omega (arith, small c)) (λ c. (refl, small c)))

@@ -15,10 +15,9 @@ begins c = bucket_begins (length c.args.keys.now) c.args.b c.args.i (omega arith
 bucket : (c : tie.Start) → c.args.i ≤ c.args.i * c.args.b
 bucket c = le-mul_of_pos_right c.args.i (omega arith)
 
-pub prefix-at-spec : {M : Type 1} → statement M
-prefix-at-spec =
+pub prefix_at_spec : {M : Type 1} → statement M
+prefix_at_spec =
     tie.close
-    (tie.spec (λ c. omega (arith, begins c.before))
-    (λ c. omega (arith, begins c.before, bucket c.before))
-    (λ c. omega (arith, begins c.before.before, bucket c.before.before)) (λ c κs. search rules)
-    (λ c κs. search rules) (λ c. cc))
+    (tie.spec (λ c. omega (arith, begins c.before)) (λ c. omega (arith, begins c.before, bucket c.before))
+    (λ c. omega (arith, begins c.before.before, bucket c.before.before)) (λ c κs. search rules) (λ c κs. search rules)
+    (λ c. cc))

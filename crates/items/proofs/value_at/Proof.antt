@@ -14,73 +14,74 @@ use Rattle.items.proofs.Sources.{asked-keys, asked-prefixes, asked-handles}
 use Rattle.items.proofs.value_at.Statement.{statement}
 use Rattle.items.proofs.value_at.Tie as tie
 
-key-value-requires : tie.Need-key-value-requires
-key-value-requires c κs = asked-keys (inl c.enum_told.given.1) c.before.before.before.before.before.requires
+key-value-requires : tie.Need-key_value-requires
+key-value-requires c κs = asked-keys (inl c.in-Keys.is) c.requires
 
-cast-result : tie.Need-overflow-cast-result
+cast-result : tie.Need-overflow_cast-result
 cast-result c =
-    let s = c.before.before.before.before.before in
-    let k = asked-prefixes c.enum-told2.given.1 s.requires in
+    let s = c.before.before.before.before in
+    let k = asked-prefixes c.in-Prefixes.is s.requires in
     omega (arith, buckets_le (length s.args.keys.now) s.args.b (omega arith))
 
-split : (c : tie.After-split-at) → let a = c.before.before.before.before.before.before.args in
+split : (c : tie.After-split_at) → let a = c.args in
     c.split_at.result ≡ handle_split (delimiters a.b a.keys.now) a.i
 split c =
-    let s = c.before.before.before.before.before.before in
-    let k = asked-handles c.before.enum-told3.given.1 s.requires in
+    let s = c.before.before.before.before.before in
+    let k = asked-handles c.in-Handles.is s.requires in
     c.split_at.ensures
     ∙ split-beside s.args.b s.args.keys.now s.args.left.now s.args.right.now k.0 s.args.i
     k.1
 
-split-at-requires : tie.Need-split-at-requires
+split-at-requires : tie.Need-split_at-requires
 split-at-requires c κs =
-    let s = c.before.before.before.before.before in
-    let k = asked-handles c.enum-told3.given.1 s.requires in
+    let s = c.before.before.before.before in
+    let k = asked-handles c.in-Handles.is s.requires in
     let few = delimiters_few s.args.b s.args.keys.now s.args.left.now s.args.right.now k.0 in
     (omega arith, omega arith)
 
-cast-result-2 : tie.Need-overflow-cast-result-2
+cast-result-2 : tie.Need-overflow_cast-result-in-Handles
 cast-result-2 c =
-    let s = c.before.before.before.before.before.before in
-    let k = asked-handles c.before.enum-told3.given.1 s.requires in
+    let s = c.before.before.before.before.before in
+    let k = asked-handles c.in-Handles.is s.requires in
     omega (arith, split c, split-small s.args.b s.args.keys.now s.args.left.now s.args.right.now k.0 s.args.i k.1)
 
-offset-of-requires : tie.Need-offset-of-requires
+offset-of-requires : tie.Need-offset_of-requires
 offset-of-requires c κs =
-    let k = asked-keys (inr c.enum-told4.given.1) c.before.before.before.before.before.requires in
+    let k = asked-keys (inr c.in-Offsets.is) c.requires in
     (omega arith, omega arith)
 
-returns : tie.Need-returns
+returns : tie.Need-returns-in-Keys
 unfolding values_of
 returns c =
-    let s = c.before.before.before.before.before.before in
-    let is = c.before.enum_told.given.1 in
-    rw is (c.key-value.ensures ∙ sym (key_value_is s.args.b s.args.keys.now s.args.i (asked-keys (inl is) s.requires).1))
+    let s = c.before.before.before.before.before in
+    let is = c.in-Keys.is in
+    rw is (c.key_value.ensures ∙ sym (key_value_is s.args.b s.args.keys.now s.args.i (asked-keys (inl is) s.requires).1))
 
-returns-2 : tie.Need-returns-2
+returns-2 : tie.Need-returns-in-Prefixes
 unfolding values_of
 returns-2 c =
-    let s = c.before.before.before.before.before in
-    let is = c.enum-told2.given.1 in
+    let s = c.before.before.before.before in
+    let is = c.in-Prefixes.is in
     rw is (sym (number_is s.args.b s.args.keys.now s.args.i (asked-prefixes is s.requires).1))
 
-returns-3 : tie.Need-returns-3
+returns-3 : tie.Need-returns-in-Handles
 unfolding values_of
 returns-3 c =
-    let s = c.before.before.before.before.before.before in
-    let is = c.before.enum-told3.given.1 in
+    let s = c.before.before.before.before.before in
+    let is = c.in-Handles.is in
     let D = delimiters s.args.b s.args.keys.now in
     rw is (split c ∙ sym (split_is D s.args.i (asked-handles is s.requires).1))
 
-returns-4 : tie.Need-returns-4
+returns-4 : tie.Need-returns-in-Offsets
 unfolding values_of
 returns-4 c =
-    let s = c.before.before.before.before.before.before in
-    let is = c.before.enum-told4.given.1 in
-    rw is (c.offset-of.ensures.0 ∙ sym (offset_is s.args.b s.args.keys.now s.args.i (asked-keys (inr is) s.requires).1))
+    let s = c.before.before.before.before.before in
+    let is = c.in-Offsets.is in
+    rw is (c.offset_of.ensures.0 ∙ sym (offset_is s.args.b s.args.keys.now s.args.i (asked-keys (inr is) s.requires).1))
 
-pub value-at-spec : {M : Type 1} → statement M
-value-at-spec =
+pub value_at_spec : {M : Type 1} → statement M
+value_at_spec =
     tie.close
     (tie.spec (λ c. search rules) key-value-requires (λ c. search rules) cast-result (λ c. search rules)
-    split-at-requires cast-result-2 (λ c. search rules) offset-of-requires (λ c. omega arith) returns returns-2 returns-3 returns-4)
+    split-at-requires cast-result-2 (λ c. search rules) offset-of-requires (λ c. omega arith) returns returns-2
+    returns-3 returns-4)

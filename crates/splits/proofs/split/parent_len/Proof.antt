@@ -17,12 +17,12 @@ apart s =
     ends_apart (delimiters s.args.b s.args.keys.now) rising.table s.args.m rising.split.pos
     rising.split.small
 
-len-of-first-requires : tie.Need-len-of-first-requires
+len-of-first-requires : tie.Need-len_of_first-requires
 len-of-first-requires c κs =
     let s = c.before.before.before.before.before.before in
     (s.requires.rising.split.bucketed, omega (arith, apart s))
 
-len-of-end-requires : tie.Need-len-of-end-requires
+len-of-end-requires : tie.Need-len_of_end-requires
 len-of-end-requires c κs =
     (search rules, omega (arith, apart c.before.before.before.before.before.before.before))
 
@@ -31,8 +31,8 @@ returns c =
     let s = c.before.before.before.before.before.before.before.before.before in
     cc (parent_by (delimiters s.args.b s.args.keys.now) s.args.m s.requires.rising.split.pos)
 
-pub parent-len-spec : {M : Type 1} → statement M
-parent-len-spec =
+pub parent_len_spec : {M : Type 1} → statement M
+parent_len_spec =
     tie.close
     (tie.spec (λ c κs. search rules) (λ c κs. search rules) (λ c κs. search rules) len-of-first-requires
     len-of-end-requires (λ c κs. search rules) returns)

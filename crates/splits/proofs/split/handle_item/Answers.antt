@@ -6,12 +6,10 @@ use Rattle.tables.specs.Delimiters.{delimiters}
 use Rattle.splits.proofs.Rows.{len-lt}
 use Rattle.splits.proofs.Parents.{parent_shorter}
 use Rattle.splits.proofs.Handles.{handle-by}
-use borrow.Author.Rules.{rules}
-use Rattle.splits.proofs.split.handle_item.Statement.{statement}
-use Rattle.splits.proofs.split.handle_item.Tie as tie
+use Rattle.splits.proofs.split.handle_item.Goals as goal
 
-fattest-requires : tie.Need-fattest-requires
-fattest-requires c κs =
+pub fattest-f-requires : goal.fattest-f-requires
+fattest-f-requires c =
     let s = c.before.before.before.before.before in
     let T = delimiters s.args.b s.args.keys.now in
     let split = s.requires.0.rising.split in
@@ -22,31 +20,25 @@ fattest-requires c κs =
       len-lt T table s.args.m split.pos split.small,
     )
 
-prefix-item-requires : tie.Need-prefix-item-requires
-prefix-item-requires c κs =
+pub prefix_item-requires : goal.prefix_item-requires
+prefix_item-requires c =
     let s = c.before.before.before.before.before.before.before in
     let split = s.requires.0.rising.split in
     omega (
       arith,
-      c.before.fattest.ensures.within,
+      c.fattest-f.ensures.within,
       len-lt (delimiters s.args.b s.args.keys.now) s.requires.0.rising.table s.args.m split.pos
           split.small,
     )
 
-returns : tie.Need-returns
+pub returns : goal.returns
 returns c =
     let s = c.before.before.before.before.before.before.before.before in
     let split = s.requires.0.rising.split in
-    let f = c.before.before.fattest in
+    let f = c.fattest-f in
     let F =
-    rw (c.before.before.before.parent-len.ensures, c.before.before.before.before.len-at.ensures) at
+    rw (c.parent_len-q.ensures, c.len_at-l.ensures) at
     f.ensures in
-    rw c.before.delimiter-at.ensures at c.prefix-item.ensures
+    rw c.delimiter_at.ensures at c.prefix_item.ensures
     ∙ handle-by (delimiters s.args.b s.args.keys.now) s.requires.0.rising.table s.args.m split.pos
     split.small s.requires.1 f.result F
-
-pub handle-item-spec : {M : Type 1} → statement M
-handle-item-spec =
-    tie.close
-    (tie.spec (λ c κs. search rules) (λ c κs. search rules) (λ c. search rules) (λ c. search rules)
-    fattest-requires (λ c. search rules) (λ c κs. search rules) prefix-item-requires returns)
