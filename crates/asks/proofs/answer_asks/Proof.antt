@@ -42,7 +42,7 @@ loop-holds c =
     (put-start (ask_lines a.keys.now) a.asks.now a.out.now a.i (omega arith), omega arith)
 
 answer-ask-requires : tie.Need-answer-ask-requires invariant-loop decreases-loop
-answer-ask-requires c κs = (start c.before.before.before).pre
+answer-ask-requires c κs = (start c.before.before.before).requires
 
 same_length : tie.Need-same-length invariant-loop decreases-loop
 same_length c =

@@ -9,67 +9,59 @@ use Rattle.descent.proofs.probe.Statement.{statement}
 use Rattle.descent.proofs.probe.Tie as tie
 
 -- the probe is at the length that the walk probes
-at : (c : tie.After-look-up) → let a = c.before.before.before.before.before.before.before.args in
-    c.before.before.before.probe-length.result ≡ probe_at (stored_length a.lengths.now a.node) (a.last + 1)
+at : (c : tie.After-look_up-m) → let a = c.args in
+    c.probe_length-f.result ≡ probe_at (stored_length a.lengths.now a.node) (a.last + 1)
 at c =
     let s = c.before.before.before.before.before.before.before in
-    let f = c.before.before.before.probe-length in
+    let f = c.probe_length-f in
     probe_is s.args.last f.result s.requires.1.is s.requires.2 s.requires.3 f.ensures
 
 -- and map 3 says of it what the walk looks up
-found : (c : tie.After-look-up) → let a = c.before.before.before.before.before.before.before.args in
-    c.look_up.result ≡ handle_value a.b a.keys.now a.handles.now a.seed3 a.x
-    c.before.before.before.probe-length.result
+found : (c : tie.After-look_up-m) → let a = c.args in
+    c.look_up-m.result ≡ handle_value a.b a.keys.now a.handles.now a.seed3 a.x
+    c.probe_length-f.result
 found c = cc
 
 -- what is accepted is a split, so there is a length of it
-is-split : (c : tie.Then1) → let a = c.before.before.before.before.before.before.before.before.before.args in
-    c.before.before.look_up.result < length a.lengths.now
+is-split : (c : tie.Then-accepts) → let a = c.args in
+    c.look_up-m.result < length a.lengths.now
 is-split c =
     let s = c.before.before.before.before.before.before.before.before.before in
     let a = s.args in
     let T = delimiters a.b a.keys.now in
-    let ok = sym c.before.accepts.ensures ∙ c.if1.true in
+    let ok = sym c.accepts.ensures ∙ c.if-accepts.true in
     let K = accepted_means T (stored_length a.lengths.now) a.x
-    c.before.before.before.before.before.probe-length.result (a.last + 1)
-    c.before.before.look_up.result ok in
+    c.probe_length-f.result (a.last + 1)
+    c.look_up-m.result ok in
     omega (arith, K.small, s.requires.0.counted.rows, s.requires.0.entries)
 
-returns : tie.Need-returns
+returns : tie.Need-returns-then-accepts
 returns c =
     let p = c.before.before.before in
-    let a = p.before.before.before.before.before.before.before.args in
+    let a = p.args in
     let T = delimiters a.b a.keys.now in
-    let ok = sym c.before.before.accepts.ensures ∙ c.before.if1.true in
+    let ok = sym c.accepts.ensures ∙ c.if-accepts.true in
     stepped-to T (stored_length a.lengths.now) a.x
     (handle_value a.b a.keys.now a.handles.now a.seed3 a.x) a.node (a.last + 1)
-    p.before.before.before.probe-length.result p.look_up.result (at p) (found p) _
+    p.probe_length-f.result p.look_up-m.result (at p) (found p) _
     a.last (omega arith) refl ok
 
-returns-2 : tie.Need-returns-2
+returns-2 : tie.Need-returns
 returns-2 c =
     let p = c.before.before in
     let s = p.before.before.before.before.before.before.before in
     let a = s.args in
     let T = delimiters a.b a.keys.now in
-    let fails = sym c.before.accepts.ensures ∙ c.if1.false in
+    let fails = sym c.accepts.ensures ∙ c.if-accepts.false in
     stepped-under T (stored_length a.lengths.now) a.x
     (handle_value a.b a.keys.now a.handles.now a.seed3 a.x) a.node (a.last + 1)
-    p.before.before.before.probe-length.result p.look_up.result (at p) (found p) a.lower
-    (p.before.before.before.probe-length.result - 1)
+    p.probe_length-f.result p.look_up-m.result (at p) (found p) a.lower
+    (p.probe_length-f.result - 1)
     s.requires.1.is (omega arith) fails
 
-pub probe-spec : {M : Type 1} → statement M
-probe-spec =
+pub probe_spec : {M : Type 1} → statement M
+probe_spec =
     tie.close
-    (tie.spec
-    (λ c κs. search rules)
-    (λ c κs. search rules)
-    (λ c κs. search rules)
-    (λ c κs. search rules)
-    (λ c. search rules)
-    (λ c κs. search rules)
-    (λ c κs. omega (arith, is-split c))
-    returns
-    (λ c. search rules)
+    (tie.spec (λ c κs. search rules) (λ c κs. search rules) (λ c κs. search rules) (λ c κs. search rules)
+    (λ c. search rules) (λ c κs. search rules) (λ c κs. omega (arith, is-split c)) returns (λ c. search rules)
     returns-2)

@@ -10,50 +10,50 @@ use borrow.Author.Rules.{rules}
 use Rattle.fills.proofs.fill_all.Statement.{statement}
 use Rattle.fills.proofs.fill_all.Tie as tie
 
-abbrev invariant-loop : tie.invariant-loop
+abbrev invariant-loop : tie.invariant-loop-done
 invariant-loop map keys left right cells₀ work t done₀ cells done =
     (done ≤ map.t) × (length cells ≡ length cells₀) × FilledFrom map keys work (map.t - done) cells₀ cells
 
-abbrev decreases-loop : tie.decreases-loop
+abbrev decreases-loop : tie.decreases-loop-done
 decreases-loop map keys left right cells₀ work t done₀ cells done = map.t - done
 
-abbrev start : tie.At-loop invariant-loop decreases-loop → tie.Start invariant-loop decreases-loop
+abbrev start : tie.At-loop-done invariant-loop decreases-loop → tie.Start invariant-loop decreases-loop
 start k = k.before.before.before.before.before.before
 
-loop-holds : tie.Need-loop-init invariant-loop decreases-loop
+loop-holds : tie.Need-loop-done-init invariant-loop decreases-loop
 loop-holds c =
     let s = c.before.before.before.before.before in
     (omega arith, refl, fill_none s.requires.0 (s.args.map.t - 0) (omega arith) s.requires.1)
 
-fill-turn-requires : tie.Need-fill-turn-requires invariant-loop decreases-loop
+fill-turn-requires : tie.Need-fill_turn-requires invariant-loop decreases-loop
 fill-turn-requires c κs =
     let at-loop = c.before.before in
     let s = start at-loop in
-    (s.pre.0, omega (arith, at-loop.loop.invariant.1), omega arith)
+    (s.requires.0, omega (arith, at-loop.loop-done.invariant.1), omega arith)
 
-loop-again : tie.Need-loop-preserved invariant-loop decreases-loop
+loop-again : tie.Need-loop-done-preserved invariant-loop decreases-loop
 loop-again c =
     let called = c.before.before in
     let at-loop = called.before.before.before in
     let s = start at-loop in
     let t = s.args.map.t in
-    let done = at-loop.loop.done in
+    let done = at-loop.loop-done.done in
     let z : t - done ≡ t - (done + 1) + 1 = omega arith in (
       omega arith,
-      called.fill-turn.auto.1.1.1.1.0 ∙ at-loop.loop.invariant.1,
-      turn s.pre.0 (omega arith) (omega (arith, at-loop.loop.invariant.1)) (rw z at at-loop.loop.invariant.2)
-          called.fill-turn.ensures,
+      called.fill_turn.auto.cells ∙ at-loop.loop-done.invariant.1,
+      turn s.requires.0 (omega arith) (omega (arith, at-loop.loop-done.invariant.1)) (rw z at at-loop.loop-done.invariant.2)
+          called.fill_turn.ensures,
     )
 
 returns : tie.Need-returns invariant-loop decreases-loop
 returns c =
     let at-loop = c.before in
     let s = start at-loop in
-    let z : s.args.map.t - at-loop.loop.done ≡ 0 = omega arith in
-    fill_all s.pre.0 (rw z at at-loop.loop.invariant.2)
+    let z : s.args.map.t - at-loop.loop-done.done ≡ 0 = omega arith in
+    fill_all s.requires.0 (rw z at at-loop.loop-done.invariant.2)
 
-pub fill-all-spec : {M : Type 1} → statement M
-fill-all-spec =
+pub fill_all_spec : {M : Type 1} → statement M
+fill_all_spec =
     tie.close
     (tie.spec invariant-loop decreases-loop loop-holds (λ c. search rules) (λ c. search rules) fill-turn-requires
     (λ c. search rules) loop-again (λ c. search rules) returns)

@@ -12,7 +12,7 @@ use borrow.Author.Rules.{rules}
 use Rattle.fills.proofs.fill_turn.Statement.{statement}
 use Rattle.fills.proofs.fill_turn.Tie as tie
 
-abbrev start : tie.After-shared-slice-known4 → tie.Start
+abbrev start : tie.After-shared_slice_known-4-1 → tie.Start
 start k = k.before.before.before.before.before
 
 -- the turn's item, its mark and the cell that it says
@@ -41,20 +41,20 @@ asked : (s : tie.Start)
     × (I s < length (items_of s.args.map.which s.args.map.b s.args.keys.now))
 asked s = (s.requires.0.ready.known, omega (arith, (below s).0, s.requires.0.ready.all))
 
-cast-c : tie.Need-overflow-cast-c
+cast-c : tie.Need-overflow_cast-c
 cast-c c = omega (arith, marked (start c.before.before), (start c.before.before).requires.0.ready.fits)
 
 returns : tie.Need-returns
 returns c =
-    let hashed = c.before.before.before in
+    let hashed = c.before.before in
     let wanted = hashed.before in
     let s = start wanted.before.before.before in
     store_fixes s.args.map s.args.keys.now s.args.work.now s.args.cells.now s.args.p (I s)
-    (C s) hashed.hash_at.result c.before.value-from.result wanted.value-at.result
-    refl refl hashed.hash_at.ensures c.before.value-from.ensures wanted.value-at.ensures
+    (C s) hashed.hash_at-h.result c.value_from-value.result wanted.value_at-want.result
+    refl refl hashed.hash_at-h.ensures c.value_from-value.ensures wanted.value_at-want.ensures
 
-pub fill-turn-spec : {M : Type 1} → statement M
-fill-turn-spec =
+pub fill_turn_spec : {M : Type 1} → statement M
+fill_turn_spec =
     tie.close
     (tie.spec (λ c. search rules) (λ c. search rules) (λ c. search rules) (λ c. search rules) (λ c. search rules)
     (λ c. search rules) (λ c. omega (arith, (below (start c.before)).0, (start c.before).requires.0.ready.few))
@@ -63,8 +63,6 @@ fill-turn-spec =
     (λ c. omega (arith, (below (start c.before.before)).0, (start c.before.before).requires.0.long)) cast-c
     (λ c. omega (arith, marked (start c.before.before))) (λ c κs. asked (start c.before.before))
     (λ c κs. asked (start c.before.before.before)) (λ c κs. search rules)
-    (λ c. omega (arith, below (start c.before.before.before.before.before.before)))
-    (λ c. omega (arith, below (start c.before.before.before.before.before.before.before)))
-    (λ c. omega (arith, below (start c.before.before.before.before.before.before.before)))
-    (λ c. omega (arith, below (start c.before.before.before.before.before.before.before)))
-    (λ c. search rules) returns)
+    (λ c. omega (arith, below (start c.before.before.before.before.before)))
+    (λ c. omega (arith, below (start c.before.before.before.before.before.before))) (λ c. omega (arith, below (start c.before.before.before.before.before.before)))
+    (λ c. omega (arith, below (start c.before.before.before.before.before.before))) (λ c. search rules) returns)

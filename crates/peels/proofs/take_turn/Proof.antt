@@ -13,81 +13,81 @@ use borrow.Author.Rules.{rules}
 use Rattle.peels.proofs.take_turn.Statement.{statement}
 use Rattle.peels.proofs.take_turn.Tie as tie
 
-abbrev start : tie.After-slice-known → tie.Start
+abbrev start : tie.After-slice_known-1 → tie.Start
 start k = k.before.before.before.before
 
-abbrev cells : tie.After-take-item → tie.After-cells-at
+abbrev cells : tie.After-take_item → tie.After-cells_at-at
 cells k = k.before.before
 
-abbrev begun : tie.After-take-item → tie.Start
+abbrev begun : tie.After-take_item → tie.Start
 begun k = start (cells k).before.before
 
-abbrev first : tie.After-try-cell → tie.After-take-item
+abbrev first : tie.After-try_cell-n1 → tie.After-take_item
 first k = k.before.before.before.before
 
-abbrev second : tie.After-try-cell2 → tie.After-try-cell
+abbrev second : tie.After-try_cell-n2 → tie.After-try_cell-n1
 second k = k.before.before.before.before
 
 small : (s : tie.Start)
     → turn_item (3 * s.args.map.m) s.args.map.t s.args.work.now s.args.q < s.args.map.t
 small s = s.requires.0.peeled.order.small s.args.q s.requires.2
 
-take-item-requires : tie.Need-take-item-requires
+take-item-requires : tie.Need-take_item-requires
 take-item-requires c κs =
-    let found = c.before.cells_at.ensures in
+    let found = c.cells_at-at.ensures in
     let s = start c.before.before.before in (
       found.spread,
-      omega (arith, s.pre.0.long),
-      λ k h. turn_counted s.pre.0.peeled s.pre.2 k (touch_below k found.spread h) (touches_as found h),
+      omega (arith, s.requires.0.long),
+      λ k h. turn_counted s.requires.0.peeled s.requires.2 k (touch_below k found.spread h) (touches_as found h),
     )
 
 -- the item is taken out
-out : (k : tie.After-take-item)
+out : (k : tie.After-take_item)
     → AtTurn (begun k).args.map (begun k).args.keys.now (begun k).args.left.now (begun k).args.right.now
-    k.take-item.new.0 ((begun k).args.q + 1) (begun k).args.n
+    k.take_item.new.work ((begun k).args.q + 1) (begun k).args.n
 out k =
     let s = begun k in
-    next_turn s.pre.0 k.take-item.auto.0
-    (taken s.pre.0.peeled s.pre.2 (put_as (cells k).cells_at.ensures k.take-item.ensures))
+    next_turn s.requires.0 k.take_item.auto.work
+    (taken s.requires.0.peeled s.requires.2 (put_as (cells k).cells_at-at.ensures k.take_item.ensures))
 
 -- its first cell is tried, and its second
-one : (k : tie.After-try-cell)
+one : (k : tie.After-try_cell-n1)
     → AtTurn (begun (first k)).args.map (begun (first k)).args.keys.now (begun (first k)).args.left.now
-    (begun (first k)).args.right.now k.try-cell.new.0 ((begun (first k)).args.q + 1) k.try-cell.result
-one k = let A = out (first k) in next_turn A k.try-cell.auto.0 (k.try-cell.ensures.peeled _ _ A.peeled)
+    (begun (first k)).args.right.now k.try_cell-n1.new.work ((begun (first k)).args.q + 1) k.try_cell-n1.result
+one k = let A = out (first k) in next_turn A k.try_cell-n1.auto.work (k.try_cell-n1.ensures.peeled _ _ A.peeled)
 
-two : (k : tie.After-try-cell2)
+two : (k : tie.After-try_cell-n2)
     → let s = begun (first (second k)) in
-    AtTurn s.args.map s.args.keys.now s.args.left.now s.args.right.now k.try-cell2.new.0
-    (s.args.q + 1) k.try-cell2.result
-two k = let A = one (second k) in next_turn A k.try-cell2.auto.0 (k.try-cell2.ensures.peeled _ _ A.peeled)
+    AtTurn s.args.map s.args.keys.now s.args.left.now s.args.right.now k.try_cell-n2.new.work
+    (s.args.q + 1) k.try_cell-n2.result
+two k = let A = one (second k) in next_turn A k.try_cell-n2.auto.work (k.try_cell-n2.ensures.peeled _ _ A.peeled)
 
-try-cell-requires : tie.Need-try-cell-requires
+try-cell-requires : tie.Need-try_cell-n1-requires
 try-cell-requires c κs =
     let k = c.before.before.before in
-    let spread = (cells k).cells_at.ensures.spread in
-    try_at (cells k).cells_at.result.first (out k) (omega arith)
+    let spread = (cells k).cells_at-at.ensures.spread in
+    try_at (cells k).cells_at-at.result.first (out k) (omega arith)
 
-try-cell-requires-2 : tie.Need-try-cell-requires-2
+try-cell-requires-2 : tie.Need-try_cell-n2-requires
 try-cell-requires-2 c κs =
     let k = c.before.before.before in
-    let found = (cells (first k)).cells_at in
+    let found = (cells (first k)).cells_at-at in
     let spread = found.ensures.spread in
     try_at found.result.second (one k) (omega arith)
 
-try-cell-requires-3 : tie.Need-try-cell-requires-3
+try-cell-requires-3 : tie.Need-try_cell-requires
 try-cell-requires-3 c κs =
     let k = c.before.before.before in
-    let found = (cells (first (second k))).cells_at in
+    let found = (cells (first (second k))).cells_at-at in
     let spread = found.ensures.spread in
     try_at found.result.third (two k) (omega arith)
 
-same_length : tie.Need-same-length
+same_length : tie.Need-shape_of-work
 same_length c =
     let k3 = c.before.before in
     let k2 = k3.before.before.before.before in
     let k1 = second k2 in
-    k3.try-cell3.auto.0 ∙ k2.try-cell2.auto.0 ∙ k1.try-cell.kept.0 ∙ (first k1).take-item.kept.0
+    k3.try_cell.auto.work ∙ k2.try_cell-n2.auto.work ∙ k1.try_cell-n1.auto.work ∙ (first k1).take_item.auto.work
 
 returns : tie.Need-returns
 returns c =
@@ -96,24 +96,24 @@ returns c =
     let k1 = second k2 in
     let k0 = first k1 in
     let s = begun k0 in
-    let found = (cells k0).cells_at.ensures in
+    let found = (cells k0).cells_at-at.ensures in
     let A = two k2 in
-    let T1 = k1.try-cell.ensures in
-    let T2 = k2.try-cell2.ensures in
-    let T3 = k3.try-cell3.ensures in
-    let R = put_as found k0.take-item.ensures in
+    let T1 = k1.try_cell-n1.ensures in
+    let T2 = k2.try_cell-n2.ensures in
+    let T3 = k3.try_cell.ensures in
+    let R = put_as found k0.take_item.ensures in
     record {
-      turn = next_turn A k3.try-cell3.auto.0 (T3.peeled _ _ A.peeled);
-      seen = seen_three found T1 T2 T3 (λ k l h. taken-seen s.pre.0.peeled s.pre.2 R k l h (s.pre.1 k l));
+      turn = next_turn A k3.try_cell.auto.work (T3.peeled _ _ A.peeled);
+      seen = seen_three found T1 T2 T3 (λ k l h. taken-seen s.requires.0.peeled s.requires.2 R k l h (s.requires.1 k l));
       beyond = λ k l.
           T3.beyond k (omega arith) ∙ T2.beyond k (omega arith) ∙ T1.beyond k (omega arith)
           ∙ sym (R.rest k (omega arith));
     }
 
-pub take-turn-spec : {M : Type 1} → statement M
-take-turn-spec =
+pub take_turn_spec : {M : Type 1} → statement M
+take_turn_spec =
     tie.close
     (tie.spec (λ c. search rules) (λ c. search rules) (λ c. search rules) (λ c. search rules) (λ c. search rules)
-    (λ c. search rules) (λ c. let s = start c.before in omega (arith, small s, s.pre.0.ready.few))
-    (λ c κs. let s = start c.before in (s.pre.0.ready, small s)) take-item-requires try-cell-requires
+    (λ c. search rules) (λ c. let s = start c.before in omega (arith, small s, s.requires.0.ready.few))
+    (λ c κs. let s = start c.before in (s.requires.0.ready, small s)) take-item-requires try-cell-requires
     try-cell-requires-2 try-cell-requires-3 same_length returns)

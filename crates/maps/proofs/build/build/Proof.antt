@@ -77,7 +77,7 @@ fill-all-requires c κs =
     let s = start k in (
       rw then.if1.true at p.peel-all.ensures.turn,
       cleared_blank (3 * (map k).m) s.args.cells.now (cells-cleared k) k.clear.kept.0
-          (room_cells (ready k) s.pre.1),
+          (room_cells (ready k) s.requires.1),
     )
 
 same_length : tie.Need-same-length

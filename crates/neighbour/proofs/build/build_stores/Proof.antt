@@ -28,7 +28,7 @@ build-requires c κs =
     let e = bounded c.before.before.before.before.before.before in
     let s = e.before.before.before.before.before.before.before.before.before in
     let b = e.build-bounds.ensures in
-    (record { source = handles_source s.pre b.0 b.1 }, handles_room s.pre)
+    (record { source = handles_source s.pre b.0 b.1 }, handles_room s.requires)
 
 returns : tie.Need-returns
 unfolding items_of values_of
