@@ -15,7 +15,7 @@ use Rattle.places.proofs.decide.Statement.{statement}
 use Rattle.places.proofs.decide.Tie as tie
 
 -- the bounds that pass the tests are not spoiled
-good : (c : tie.Else3) → let a = c.before.before.before.before.args in
+good : (c : tie.Else-end-n) → let a = c.args in
     (a.first < a.m) × (a.m < a.end) × (a.end ≤ length (delimiters a.b a.keys.now))
 good c = (omega arith, omega arith, omega arith)
 
@@ -28,62 +28,48 @@ unfolding told
 bad c fails =
     let a = c.args in rw (decide_spoiled (delimiters a.b a.keys.now) a.x a.l a.first a.m a.end fails)
 
-returns : tie.Need-returns
+returns : tie.Need-returns-then-first-m
 unfolding said_by_neighbour
 returns c = bad c.before.before (λ h g l. omega arith)
 
-returns-2 : tie.Need-returns-2
+returns-2 : tie.Need-returns-then-m-end
 unfolding said_by_neighbour
 returns-2 c = bad c.before.before.before (λ h g l. omega arith)
 
-returns-3 : tie.Need-returns-3
+returns-3 : tie.Need-returns-then-end-n
 unfolding said_by_neighbour
 returns-3 c = bad c.before.before.before.before (λ h g l. omega arith)
 
 -- the comparison that the exit bit leads to
-zero : (c : tie.Then4) → let a = c.before.before.before.before.before.args in
+zero : (c : tie.Then-x-l-eq0) → let a = c.args in
     let T = delimiters a.b a.keys.now in
     Compared a.x (key_at T a.first) a.first a.m (decide T a.x a.l a.first a.m a.end)
 zero c =
     let g = good c.before in
-    decide-zero _ _ _ _ _ _ g.0 g.1 g.2 c.if4.true
+    decide-zero _ _ _ _ _ _ g.0 g.1 g.2 c.if-x-l-eq0.true
 
-one : (c : tie.Else4) → let a = c.before.before.before.before.before.args in
+one : (c : tie.Else-x-l-eq0) → let a = c.args in
     let T = delimiters a.b a.keys.now in
     Compared a.x (key_at T a.m) a.m a.end (decide T a.x a.l a.first a.m a.end)
 one c =
     let g = good c.before in
-    decide-one _ _ _ _ _ _ g.0 g.1 g.2 c.if4.false
+    decide-one _ _ _ _ _ _ g.0 g.1 g.2 c.if-x-l-eq0.false
 
-returns-4 : tie.Need-returns-4
+returns-4 : tie.Need-returns-then-x-delimiter_at
 returns-4 c = compared_low _ _ (zero c.before.before.before) (omega arith) c.tell.ensures
 
-returns-5 : tie.Need-returns-5
-returns-5 c = compared_high _ _ (zero c.before.before.before) (omega arith) c.tell2.ensures
+returns-5 : tie.Need-returns-then-x-l-eq0
+returns-5 c = compared_high _ _ (zero c.before.before.before) (omega arith) c.tell-then-x-l-eq0.ensures
 
-returns-6 : tie.Need-returns-6
-returns-6 c = compared_low _ _ (one c.before.before.before) (omega arith) c.tell3.ensures
+returns-6 : tie.Need-returns-then-x-delimiter_at-2
+returns-6 c = compared_low _ _ (one c.before.before.before) (omega arith) c.tell-then-x-delimiter_at-2.ensures
 
-returns-7 : tie.Need-returns-7
-returns-7 c = compared_high _ _ (one c.before.before.before) (omega arith) c.tell4.ensures
+returns-7 : tie.Need-returns
+returns-7 c = compared_high _ _ (one c.before.before.before) (omega arith) c.tell-2.ensures
 
-pub decide-spec : {M : Type 1} → statement M
-decide-spec =
+pub decide_spec : {M : Type 1} → statement M
+decide_spec =
     tie.close
-    (tie.spec
-    returns
-    returns-2
-    returns-3
-    (λ c. search rules)
-    (λ c. search rules)
-    (λ c. search rules)
-    (λ c κs. search rules)
-    (λ c κs. search rules)
-    returns-4
-    (λ c κs. search rules)
-    returns-5
-    (λ c κs. search rules)
-    (λ c κs. search rules)
-    returns-6
-    (λ c κs. search rules)
-    returns-7)
+    (tie.spec returns returns-2 returns-3 (λ c. search rules) (λ c. search rules) (λ c. search rules)
+    (λ c κs. search rules) (λ c κs. search rules) returns-4 (λ c κs. search rules) returns-5 (λ c κs. search rules)
+    (λ c κs. search rules) returns-6 (λ c κs. search rules) returns-7)

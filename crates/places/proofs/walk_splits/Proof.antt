@@ -11,98 +11,84 @@ use borrow.Author.Rules.{rules}
 use Rattle.places.proofs.walk_splits.Statement.{statement}
 use Rattle.places.proofs.walk_splits.Tie as tie
 
-two : (c : tie.After-entry-at) → let a = c.before.before.before.before.before.before.args in
+two : (c : tie.After-entry_at-root) → let a = c.args in
     2 ≤ length (delimiters a.b a.keys.now)
 two c = omega arith
 
 -- the root split is one
-rooted : (c : tie.Else3) → let p = c.before.before.before.before in
-    let a = p.before.before.before.before.before.before.args in
+rooted : (c : tie.Else-l-gt63) → let p = c.before.before.before.before in
+    let a = p.args in
     let T = delimiters a.b a.keys.now in
-    let r = p.entry_at.result in
+    let r = p.entry_at-root.result in
     (0 < r) × (r < length T) × (stored_length a.lengths.now r ≤ 63)
 rooted c = (omega arith, omega arith, omega arith)
 
 -- the root split is none, or too long
-bad : (c : tie.After-entry-at) → let a = c.before.before.before.before.before.before.args in
+bad : (c : tie.After-entry_at-root) → let a = c.args in
     let T = delimiters a.b a.keys.now in
-    let r = c.entry_at.result in
+    let r = c.entry_at-root.result in
     ((0 < r) × (r < length T) × (stored_length a.lengths.now r ≤ 63) → ⊥) → refused 6 0 ≡ walk_says T a.handles.now
     a.left.now a.right.now a.lengths.now a.seed3 a.x
 bad c fails =
-    let a = c.before.before.before.before.before.before.args in
+    let a = c.args in
     let T = delimiters a.b a.keys.now in
     says-bad T a.handles.now a.left.now a.right.now a.lengths.now a.seed3 a.x (two c)
-    c.entry_at.result c.entry_at.ensures fails
+    c.entry_at-root.result c.entry_at-root.ensures fails
 
-returns : tie.Need-returns
+returns : tie.Need-returns-then-root-eq0
 unfolding said_by_neighbour
 returns c = bad c.before (λ k. omega arith)
 
-returns-2 : tie.Need-returns-2
+returns-2 : tie.Need-returns-then-root-n
 unfolding said_by_neighbour
 returns-2 c = bad c.before.before (λ k. omega arith)
 
-returns-3 : tie.Need-returns-3
+returns-3 : tie.Need-returns-then-l-gt63
 unfolding said_by_neighbour
 returns-3 c = bad c.before.before.before.before (λ k. omega arith)
 
 -- the probes end at a split, and lower is its length
 decide-requires : tie.Need-decide-requires
 decide-requires c κs =
-    let d = c.before.before.descend.ensures in
+    let d = c.descend-d.ensures in
     let p = c.before.before.before.before.before.before.before.before.before in
-    let L = p.before.before.before.before.before.before.requires.0.counted in
+    let L = p.requires.0.counted in
     (L, record { bucketed = L.bucketed; pos = d.pos; small = d.small }, d.short)
 
-returns-4 : tie.Need-returns-4
+returns-4 : tie.Need-returns-then-agrees
 returns-4 c =
     let e = c.before.before.before.before.before.before in
     let p = e.before.before.before.before in
     let t = c.before.before.before.before in
-    let on = sym t.before.agrees.ensures ∙ t.if4.true in
-    let d = c.before.before.before.descend.ensures in
+    let on = sym t.agrees.ensures ∙ t.if-agrees.true in
+    let d = c.descend-d.ensures in
     c.decide.ensures
-    ∙ says-walk _ _ _ _ _ _ _ (two p) p.entry_at.result p.entry_at.ensures (rooted e)
+    ∙ says-walk _ _ _ _ _ _ _ (two p) p.entry_at-root.result p.entry_at-root.ensures (rooted e)
     _ (omega arith) on _ _ _ _ _
-    d.node_is d.probes_is d.lower_is c.before.before.entry-at2.ensures c.before.entry-at3.ensures
+    d.node_is d.probes_is d.lower_is c.entry_at-first.ensures c.entry_at-end.ensures
 
-returns-5 : tie.Need-returns-5
+returns-5 : tie.Need-returns-then-x-delimiter_at
 returns-5 c =
     let e = c.before.before.before.before.before in
     let p = e.before.before.before.before in
-    let off = sym c.before.before.before.before.agrees.ensures ∙ c.before.before.before.if4.false in
+    let off = sym c.agrees.ensures ∙ c.if-agrees.false in
     c.tell.ensures
-    ∙ says-low _ _ _ _ _ _ _ (two p) p.entry_at.result p.entry_at.ensures (rooted e)
+    ∙ says-low _ _ _ _ _ _ _ (two p) p.entry_at-root.result p.entry_at-root.ensures (rooted e)
     _ (omega arith) off (omega arith)
 
-returns-6 : tie.Need-returns-6
+returns-6 : tie.Need-returns
 returns-6 c =
     let e = c.before.before.before.before.before in
     let p = e.before.before.before.before in
-    let off = sym c.before.before.before.before.agrees.ensures ∙ c.before.before.before.if4.false in
-    c.tell2.ensures
-    ∙ says-high _ _ _ _ _ _ _ (two p) p.entry_at.result p.entry_at.ensures (rooted e)
+    let off = sym c.agrees.ensures ∙ c.if-agrees.false in
+    c.tell-2.ensures
+    ∙ says-high _ _ _ _ _ _ _ (two p) p.entry_at-root.result p.entry_at-root.ensures (rooted e)
     _ (omega arith) off (omega arith) _
-    p.before.before.before.before.before.before.requires.0.counted.rows
+    p.requires.0.counted.rows
 
-pub walk-splits-spec : {M : Type 1} → statement M
-walk-splits-spec =
+pub walk_splits_spec : {M : Type 1} → statement M
+walk_splits_spec =
     tie.close
-    (tie.spec
-    (λ c κs. search rules)
-    returns
-    returns-2
-    (λ c κs. search rules)
-    returns-3
-    (λ c κs. search rules)
-    (λ c κs. search rules)
-    (λ c κs. search rules)
-    (λ c κs. search rules)
-    decide-requires
-    returns-4
-    (λ c κs. search rules)
-    (λ c κs. search rules)
-    returns-5
-    (λ c κs. search rules)
-    returns-6)
+    (tie.spec (λ c κs. search rules) returns returns-2 (λ c κs. search rules) returns-3 (λ c κs. search rules)
+    (λ c κs. search rules) (λ c κs. search rules) (λ c κs. search rules) decide-requires returns-4
+    (λ c κs. search rules) (λ c κs. search rules) returns-5 (λ c κs. search rules) returns-6)
