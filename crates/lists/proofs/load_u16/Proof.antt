@@ -13,66 +13,53 @@ use Rattle.lines.proofs.Listing.{read_within}
 use Rattle.lists.proofs.load_u16.Statement.{statement}
 use Rattle.lists.proofs.load_u16.Tie as tie
 
-abbrev invariant-loop : tie.invariant-loop
+abbrev invariant-loop : tie.invariant-loop-k
 invariant-loop s i tag kind most n out₀ k₀ at₀ out k at =
     (k ≤ n) × Loads most (line kind tag) k s i out₀ out (At at)
 
-abbrev decreases-loop : tie.decreases-loop
+abbrev decreases-loop : tie.decreases-loop-k
 decreases-loop s i tag kind most n out₀ k₀ at₀ out k at = n - k
 
 -- where the function began
-abbrev start : tie.At-loop invariant-loop decreases-loop → tie.Start invariant-loop decreases-loop
+abbrev start : tie.At-loop-k invariant-loop decreases-loop → tie.Start invariant-loop decreases-loop
 start p = p.before.before.before.before.before.before
 
 -- the slice keeps its length
-kept : (p : tie.At-loop invariant-loop decreases-loop) → length p.loop.out ≡ length (start p).args.out.now
-kept p = loads-length _ _ _ _ _ _ _ _ p.loop.invariant.1
+kept : (p : tie.At-loop-k invariant-loop decreases-loop) → length p.loop-k.out ≡ length (start p).args.out.now
+kept p = loads-length _ _ _ _ _ _ _ _ p.loop-k.invariant.1
 
-cast-out : tie.Need-overflow-cast-out invariant-loop decreases-loop
+cast-out : tie.Need-overflow_cast-out invariant-loop decreases-loop
 cast-out c =
-    let reads = rw c.before.value.given.1 at c.before.before.before.read-line.ensures in
+    let reads = rw c.in-Value.is at c.read_line.ensures in
     let small = read_within _ _ _ _ _ _ reads in
     omega arith
 
-returns-3 : tie.Need-returns-3 invariant-loop decreases-loop
+returns-3 : tie.Need-returns-in-Bad invariant-loop decreases-loop
 returns-3 c =
-    let p = c.before.before.before.before in
+    let p = c.before.before.before in
     let a = (start p).args in
     let u = line_unique a.kind a.tag.now a.most (omega arith) in
-    let reads = rw c.enum_told.given.1 at c.before.before.read-line.ensures in
-    loads-bad _ _ _ _ _ _ _ _ _ u (omega arith) (omega arith) p.loop.invariant.1 reads
+    let reads = rw c.in-Bad.is at c.read_line.ensures in
+    loads-bad _ _ _ _ _ _ _ _ _ u (omega arith) (omega arith) p.loop-k.invariant.1 reads
 
-loop-again : tie.Need-loop-preserved invariant-loop decreases-loop
+loop-again : tie.Need-loop-k-preserved invariant-loop decreases-loop
 loop-again c =
-    let l = c.before.before.before.before.before.loop in
-    let v = c.before.value.given in
-    let reads = rw v.1 at c.before.before.before.read-line.ensures in
-    (omega arith, loads-more _ _ _ _ _ _ _ _ v.0.0 _ (omega arith) l.invariant.1 reads)
+    let l = c.loop-k in
+    let reads = rw c.in-Value.is at c.read_line.ensures in
+    (omega arith, loads-more _ _ _ _ _ _ _ _ c.in-Value.value _ (omega arith) l.invariant.1 reads)
 
-returns-4 : tie.Need-returns-4 invariant-loop decreases-loop
+returns-4 : tie.Need-returns invariant-loop decreases-loop
 returns-4 c =
-    let l = c.before.loop in
+    let l = c.loop-k in
     let a = (start c.before).args in
     let e : l.k ≡ a.n = omega arith in
     rw e at l.invariant.1
 
-pub load-u16-spec : {M : Type 1} → statement M
-load-u16-spec =
+pub load_u16_spec : {M : Type 1} → statement M
+load_u16_spec =
     tie.close
-    (tie.spec
-    invariant-loop
-    decreases-loop
-    (λ c. loads_small _ _ _ _ _ _ (omega arith))
-    (λ c. loads_outside _ _ _ _ _ _ (omega arith))
-    (λ c. (omega arith, loads_start _ _ _ _ _ (omega arith)))
-    (λ c κs. search rules) (λ c. search rules)
-    cast-out
-    (λ c. let e = kept c.before.before.before.before.before in omega arith)
-    (λ c. let e = kept c.before.before.before.before.before in omega arith)
-    (λ c. search rules)
-    (λ c. kept c.before.before.before.before)
-    returns-3
-    (λ c. search rules) (λ c. search rules)
-    loop-again
-    (λ c. kept c.before)
-    returns-4)
+    (tie.spec invariant-loop decreases-loop (λ c. loads_small _ _ _ _ _ _ (omega arith))
+    (λ c. loads_outside _ _ _ _ _ _ (omega arith)) (λ c. (omega arith, loads_start _ _ _ _ _ (omega arith)))
+    (λ c κs. search rules) (λ c. search rules) cast-out (λ c. let e = kept c.before.before.before in omega arith)
+    (λ c. let e = kept c.before.before.before in omega arith) (λ c. search rules) (λ c. kept c.before.before.before)
+    returns-3 (λ c. search rules) (λ c. search rules) loop-again (λ c. kept c.before) returns-4)

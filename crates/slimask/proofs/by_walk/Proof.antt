@@ -10,7 +10,7 @@ use Rattle.slimask.proofs.Asking.{walkable, by_place, by_refusal}
 use Rattle.slimask.proofs.by_walk.Statement.{statement}
 use Rattle.slimask.proofs.by_walk.Tie as tie
 
-abbrev start : tie.After-walk-from → tie.Start
+abbrev start : tie.After-walk_from → tie.Start
 start w = w.before.before.before.before.before.before.before.before
 
 -- the stores as they are lent
@@ -19,39 +19,39 @@ stores s =
     asked s.args.offsets.now s.args.handles.now s.args.left.now s.args.right.now s.args.lengths.now
 
 -- where the walk gave a place
-abbrev walked : tie.After-known-told2 → tie.After-walk-from
-walked k = k.before.before.before
+abbrev walked : tie.In-At → tie.After-walk_from
+walked k = k.before
 
-walk-from-requires : tie.Need-walk-from-requires
-walk-from-requires c κs = walkable c.before.before.before.before.before.before.before.requires
+walk-from-requires : tie.Need-walk_from-requires
+walk-from-requires c κs = walkable c.requires
 
 mark-requires : tie.Need-mark-requires
 mark-requires c κs =
     let s = start (walked c.before) in
     bucket_byte s.args.keys.now s.args.b s.args.seed1 s.args.offsets.now s.args.x
-    c.before.before.place.given.0.0.before
-    s.args.bytes.now s.pre.fits.bytes c.row_in.ensures
+    c.in-At.place.before
+    s.args.bytes.now s.requires.fits.bytes c.row_in-at.ensures
 
-returns : tie.Need-returns
+returns : tie.Need-returns-in-Refused
 unfolding said_by_neighbour
 returns c =
-    let w = c.before.before.before in
+    let w = c.before in
     let s = start w in
     by_refusal s.args.keys.now s.args.bytes.now s.args.b s.args.seed1 s.args.seed3 (stores s) s.args.x
-    (sym (ap said_by_neighbour c.before.refusal.given.1) ∙ w.walk_from.ensures)
+    (sym (ap said_by_neighbour c.in-Refused.is) ∙ w.walk_from.ensures)
 
-returns-2 : tie.Need-returns-2
+returns-2 : tie.Need-returns-in-At
 unfolding said_by_neighbour
 returns-2 c =
     let k = c.before.before in
     let w = walked k in
     let s = start w in
     by_place s.args.keys.now s.args.bytes.now s.args.b s.args.seed1 s.args.seed3 (stores s) s.args.x
-    (sym (ap said_by_neighbour k.before.place.given.1) ∙ w.walk_from.ensures)
-    (c.mark.ensures ∙ ap (marked s.args.bytes.now) c.before.row_in.ensures)
+    (sym (ap said_by_neighbour k.in-At.is) ∙ w.walk_from.ensures)
+    (c.mark.ensures ∙ ap (marked s.args.bytes.now) c.row_in-at.ensures)
 
-pub by-walk-spec : {M : Type 1} → statement M
-by-walk-spec =
+pub by_walk_spec : {M : Type 1} → statement M
+by_walk_spec =
     tie.close
     (tie.spec walk-from-requires (λ c. search rules) (λ c. search rules) (λ c κs. search rules) mark-requires returns
     returns-2)

@@ -24,52 +24,52 @@ stores s =
     asked s.args.offsets.now s.args.handles.now s.args.left.now s.args.right.now s.args.lengths.now
 
 -- refusals 1 and 2 do not apply
-passed : (t : tie.After-enum-told) → let a = (start t.before.before).args in Within (length a.keys.now) a.b
-passed t = limits_passed _ _ (sym (ap said_by_judge t.enum_told.given.1) ∙ t.before.before.limits.ensures)
+passed : (t : tie.In-Passed) → let a = (start t.before).args in Within (length a.keys.now) a.b
+passed t = limits_passed _ _ (sym (ap said_by_judge t.in-Passed.is) ∙ t.limits.ensures)
 
-ask-sizes-requires : tie.Need-ask-sizes-requires
+ask-sizes-requires : tie.Need-ask_sizes-requires
 ask-sizes-requires c κs = let W = passed c in (omega (arith, W.two), W.most, W.few)
 
 -- where the stores were judged
-abbrev told : tie.After-short-store → tie.After-enum-told
+abbrev told : tie.After-short_store-short → tie.In-Passed
 told p = p.before.before
 
 -- the number of the store that is too short
-short-is : (p : tie.After-short-store) → let s = start (told p).before.before in
-    p.short-store.result
+short-is : (p : tie.After-short_store-short) → let s = start (told p).before in
+    p.short_store-short.result
     ≡ short_store (sizes_beside (stores s) s.args.bytes.now) (slim_ask_sizes (length s.args.keys.now) s.args.b)
-short-is p = rw p.before.ask-sizes.ensures at p.short-store.ensures
+short-is p = rw p.ask_sizes.ensures at p.short_store-short.ensures
 
-returns : tie.Need-returns
+returns : tie.Need-returns-then-short-gt0
 unfolding slim_says
 returns c =
     let p = c.before in
-    sym (ask_short refused _ _ _ _ _ (passed (told p)) (short-is p) c.if1.true)
+    sym (ask_short refused _ _ _ _ _ (passed (told p)) (short-is p) c.if-short-gt0.true)
 
 -- no store is too short
-fits : (e : tie.Else1) → let s = start (told e.before).before.before in
+fits : (e : tie.Else-short-gt0) → let s = start (told e.before).before in
     Fits (sizes_beside (stores s) s.args.bytes.now) (slim_ask_sizes (length s.args.keys.now) s.args.b)
-fits e = none_short _ _ (omega (arith, short-is e.before, e.if1.false))
+fits e = none_short _ _ (omega (arith, short-is e.before, e.if-short-gt0.false))
 
-by-walk-requires : tie.Need-by-walk-requires
+by-walk-requires : tie.Need-by_walk-requires
 by-walk-requires c κs = roomy (passed (told c.before)) (fits c)
 
-returns-2 : tie.Need-returns-2
+returns-2 : tie.Need-returns-in-Refused
 unfolding slim_says
 returns-2 c =
-    let r = c.before in
-    sym (ask_limited refused _ _ _ _ _ (sym (ap said_by_judge r.refusal.given.1) ∙ r.before.before.limits.ensures))
+    let r = c in
+    sym (ask_limited refused _ _ _ _ _ (sym (ap said_by_judge r.in-Refused.is) ∙ r.limits.ensures))
 
-returns-3 : tie.Need-returns-3
+returns-3 : tie.Need-returns-else-short-gt0
 returns-3 c =
     let e = c.before in
-    let s = start (told e.before).before.before in
+    let s = start (told e.before).before in
     c.by_walk.ensures
     ∙ sym (slim_passes s.args.keys.now s.args.bytes.now s.args.b s.args.seed1 s.args.seed3 (stores s)
     s.args.x (passed (told e.before)) (fits e))
 
-pub slim-ask-spec : {M : Type 1} → statement M
-slim-ask-spec =
+pub slim_ask_spec : {M : Type 1} → statement M
+slim_ask_spec =
     tie.close
     (tie.spec (λ c κs. search rules) (λ c. search rules) (λ c. search rules) ask-sizes-requires (λ c κs. search rules)
     returns by-walk-requires returns-2 returns-3)

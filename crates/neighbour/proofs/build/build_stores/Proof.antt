@@ -9,10 +9,10 @@ use Rattle.neighbour.proofs.build.build_stores.Statement.{statement}
 use Rattle.neighbour.proofs.build.build_stores.Tie as tie
 
 -- where the bounds were written, from where the lengths were
-abbrev bounded : tie.After-build-lengths → tie.After-build-bounds
+abbrev bounded : tie.After-build_lengths → tie.After-build_bounds
 bounded l = l.before.before.before.before.before.before
 
-build-bounds-requires : tie.Need-build-bounds-requires
+build-bounds-requires : tie.Need-build_bounds-requires
 build-bounds-requires c κs =
     let s = c.before.before.before.before.before.before.before.before in
     record {
@@ -27,8 +27,8 @@ unfolding items_of
 build-requires c κs =
     let e = bounded c.before.before.before.before.before.before in
     let s = e.before.before.before.before.before.before.before.before.before in
-    let b = e.build-bounds.ensures in
-    (record { source = handles_source s.pre b.0 b.1 }, handles_room s.requires)
+    let b = e.build_bounds.ensures in
+    (record { source = handles_source s.requires b.0 b.1 }, handles_room s.requires)
 
 returns : tie.Need-returns
 unfolding items_of values_of
@@ -38,21 +38,13 @@ returns c =
     let e = bounded l in
     record {
       map₃ = m.build.ensures;
-      lefts = e.build-bounds.ensures.0;
-      rights = e.build-bounds.ensures.1;
-      lens = l.build-lengths.ensures;
+      lefts = e.build_bounds.ensures.0;
+      rights = e.build_bounds.ensures.1;
+      lens = l.build_lengths.ensures;
     }
 
-pub build-stores-spec : {M : Type 1} → statement M
-build-stores-spec =
+pub build_stores_spec : {M : Type 1} → statement M
+build_stores_spec =
     tie.close
-    (tie.spec
-    build-bounds-requires
-    (λ c κs. search rules)
-    build-requires
-    (λ c. search rules)
-    (λ c. search rules)
-    (λ c. search rules)
-    (λ c. search rules)
-    (λ c. search rules)
-    returns)
+    (tie.spec build-bounds-requires (λ c κs. search rules) build-requires (λ c. search rules) (λ c. search rules)
+    (λ c. search rules) (λ c. search rules) (λ c. search rules) returns)
