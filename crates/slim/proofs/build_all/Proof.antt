@@ -6,24 +6,24 @@ use Rattle.slim.proofs.build_all.Statement.{statement}
 use Rattle.slim.proofs.build_all.Tie as tie
 
 -- from where the maps were built
-abbrev start : tie.After-build-maps → tie.Start
+abbrev start : tie.After-build_maps-built → tie.Start
 start m = m.before.before.before.before.before.before.before.before.before.before.before.before.before.before
 
-abbrev built : tie.After-slice-known12 → tie.After-build-maps
+abbrev built : tie.After-slice_known-12-1 → tie.After-build_maps-built
 built k = k.before.before.before.before.before.before.before.before.before.before.before.before
 
 -- what they left
-abbrev left_by : tie.After-build-maps → Stores
+abbrev left_by : tie.After-build_maps-built → Stores
 left_by m =
-    let l = m.build-maps.new.1.1.1.1 in
+    let l = m.build_maps-built.new.1.1.1.1 in
     lent l.0 l.1.0 l.1.1.0 l.1.1.1.0 l.1.1.1.1.0 l.1.1.1.1.1.0
 
 settle-requires : tie.Need-settle-requires
 settle-requires c κs =
     let f = c.before.before.before.before.before.before in
     let m = built f.before in
-    let kept = m.build-maps.kept.1.1.1.1 in
-    still_fits (start m).pre (left_by m) f.build-sizes.ensures kept.0 kept.1.0 kept.1.1.0
+    let kept = m.build_maps-built.auto.1.1.1.1 in
+    still_fits (start m).requires (left_by m) f.build_sizes-want.ensures kept.0 kept.1.0 kept.1.1.0
     kept.1.1.1.0 kept.1.1.1.1.0 kept.1.1.1.1.1.0
 
 returns : tie.Need-returns
@@ -31,20 +31,11 @@ returns c =
     let v = c.before.before.before.before.before.before.before.before.before.before.before.before in
     let f = v.before.before.before.before.before.before.before in
     let m = built f.before in
-    settled m.build-maps.result (left_by m) (start m).pre.judged f.build-sizes.ensures
-    m.build-maps.ensures v.settle.ensures
+    settled m.build_maps-built.result (left_by m) (start m).requires.judged f.build_sizes-want.ensures
+    m.build_maps-built.ensures v.settle.ensures
 
-pub build-all-spec : {M : Type 1} → statement M
-build-all-spec =
+pub build_all_spec : {M : Type 1} → statement M
+build_all_spec =
     tie.close
-    (tie.spec
-    (λ c κs. search rules)
-    (λ c κs. limits (start (built c)).requires)
-    settle-requires
-    (λ c. search rules)
-    (λ c. search rules)
-    (λ c. search rules)
-    (λ c. search rules)
-    (λ c. search rules)
-    (λ c. search rules)
-    returns)
+    (tie.spec (λ c κs. search rules) (λ c κs. limits (start (built c)).requires) settle-requires (λ c. search rules)
+    (λ c. search rules) (λ c. search rules) (λ c. search rules) (λ c. search rules) (λ c. search rules) returns)

@@ -25,7 +25,7 @@ build-bounds-requires c κs =
 build-requires : tie.Need-build-requires
 unfolding items_of
 build-requires c κs =
-    let e = bounded c.before.before.before.before.before.before in
+    let e = bounded c.before.before.before.before in
     let s = e.before.before.before.before.before.before.before.before.before in
     let b = e.build_bounds.ensures in
     (record { source = handles_source s.requires b.0 b.1 }, handles_room s.requires)
@@ -34,7 +34,7 @@ returns : tie.Need-returns
 unfolding items_of values_of
 returns c =
     let m = c.before.before.before.before in
-    let l = m.before.before.before.before.before.before.before in
+    let l = m.before.before.before.before.before in
     let e = bounded l in
     record {
       map₃ = m.build.ensures;
