@@ -15,16 +15,15 @@ built k = k.before.before.before.before.before.before.before.before.before.befor
 -- what they left
 abbrev left_by : tie.After-build_maps-built → Stores
 left_by m =
-    let l = m.build_maps-built.new.1.1.1.1.1 in
-    lent l.0 l.1.0 l.1.1.0 l.1.1.1.0 l.1.1.1.1.0 l.1.1.1.1.1.0
+    let l = m.build_maps-built.new in lent l.cells l.handles l.left l.right l.work l.lengths
 
 settle-requires : tie.Need-settle-requires
 settle-requires c κs =
     let f = c.before.before.before.before.before.before in
     let m = built f.before in
-    let kept = m.build_maps-built.auto.1.1.1.1.1 in
-    still_fits (start m).requires (left_by m) f.full_sizes-want.ensures kept.0 kept.1.0 kept.1.1.0
-    kept.1.1.1.0 kept.1.1.1.1.0 kept.1.1.1.1.1.0
+    let kept = m.build_maps-built.auto in
+    still_fits (start m).requires (left_by m) f.full_sizes-want.ensures kept.cells kept.handles kept.left
+    kept.right kept.work kept.lengths
 
 returns : tie.Need-returns
 returns c =

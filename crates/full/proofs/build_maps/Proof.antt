@@ -46,7 +46,7 @@ returns-3 c =
     let t = c.before.before.before.before.before.before.before.before.before.before.before in
     let p = second t in
     let k = first p in
-    third-jams (start k).requires k.build_keys-one.ensures (omega (arith, p.if-one-gt0.left)) p.build_prefixes-two.ensures
+    third-jams (start k).requires k.build_keys-one.ensures (omega (arith, p.if-one-gt0.false)) p.build_prefixes-two.ensures
     (omega (arith, t.if-two-gt0.false)) t.build_stores-three.ensures
     (omega (arith, c.if-three-gt0.true))
 
@@ -55,7 +55,7 @@ returns-4 c =
     let t = c.before.before.before.before.before.before.before.before.before.before.before in
     let p = second t in
     let k = first p in
-    all-built (start k).requires k.build_keys-one.ensures (omega (arith, p.if-one-gt0.left)) p.build_prefixes-two.ensures
+    all-built (start k).requires k.build_keys-one.ensures (omega (arith, p.if-one-gt0.false)) p.build_prefixes-two.ensures
     (omega (arith, t.if-two-gt0.false)) t.build_stores-three.ensures
     (omega (arith, c.if-three-gt0.false))
 
