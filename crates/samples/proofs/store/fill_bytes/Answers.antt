@@ -1,0 +1,10 @@
+-- `samples::store::fill_bytes` is safe and ends. The loop's invariant: the store keeps its length.
+-- The measure is what is left to fill. Assumes nothing.
+use Rattle.std.proofs.Common.{arith}
+use Rattle.samples.proofs.store.fill_bytes.Goals as goal
+
+pub bounds-store-i : goal.bounds-store-i
+bounds-store-i c = omega arith
+
+pub loop-i-smaller : goal.loop-i-smaller
+loop-i-smaller c = omega arith
