@@ -10,74 +10,74 @@ use Rattle.rowanswer.proofs.run.answer_read.Statement.{statement}
 use Rattle.rowanswer.proofs.run.answer_read.Tie as tie
 
 -- the reader, once it has taken the input
-abbrev read : tie.After-known-told → tie.After-read-input
-read k = k.before.before.before.before.before.before.before
+abbrev read : tie.In-Taken → tie.After-read_input
+read k = k.before.before.before.before.before
 
-abbrev start : tie.After-known-told → tie.Start
+abbrev start : tie.In-Taken → tie.Start
 start k =
-    k.before.before.before.before.before.before.before.before.before.before.before.before.before.before
+    k.before.before.before.before.before.before.before.before.before.before.before.before
 
-abbrev bucket : tie.After-known-told → ℕ
-bucket k = k.before.bucket.given.0.0
+abbrev bucket : tie.In-Taken → ℕ
+bucket k = k.in-Taken.bucket
 
-abbrev rows : tie.After-known-told → ℕ
-rows k = k.before.bucket.given.0.1.0
+abbrev rows : tie.In-Taken → ℕ
+rows k = k.in-Taken.n
 
-abbrev lines : tie.After-known-told → ℕ
-lines k = k.before.bucket.given.0.1.1.0
+abbrev lines : tie.In-Taken → ℕ
+lines k = k.in-Taken.m
 
-abbrev keys' : tie.After-known-told → List ℕ
-keys' k = (read k).read-input.new.1.0
+abbrev keys' : tie.In-Taken → List ℕ
+keys' k = (read k).read_input.new.keys
 
-abbrev asks' : tie.After-known-told → List ℕ
-asks' k = (read k).read-input.new.1.1.0
+abbrev asks' : tie.In-Taken → List ℕ
+asks' k = (read k).read_input.new.asks
 
-holds : (k : tie.After-known-told) → let a = (start k).args in
+holds : (k : tie.In-Taken) → let a = (start k).args in
     InputHeld (min (length a.keys.now) 2048) (min (length a.asks.now) 512) a.input.now
     (bucket k) (rows k) (lines k)
     a.keys.now a.asks.now (keys' k) (asks' k)
 holds k =
     let a = (start k).args in
-    taken_holds a.input.now a.keys.now a.asks.now (keys' k) (asks' k) (read k).read-input.ensures
-    k.before.bucket.given.1
+    taken_holds a.input.now a.keys.now a.asks.now (keys' k) (asks' k) (read k).read_input.ensures
+    k.in-Taken.is
 
-slice-reshare-prefix-answer-table : tie.Need-slice-reshare-prefix-answer-table
+slice-reshare-prefix-answer-table : tie.Need-slice_bounds-answer_table-end
 slice-reshare-prefix-answer-table c =
     let H = holds c in start_within (rows c) H.ks (start c).args.keys.now (keys' c) H.key_count H.keys_hold
 
-slice-aggregate-answer-table : tie.Need-slice-aggregate-answer-table
+slice-aggregate-answer-table : tie.Need-slice_bounds-answer_table-end-in-Taken
 slice-aggregate-answer-table c =
-    let k = c.before in
+    let k = c in
     let H = holds k in start_long (rows k) H.ks (start k).args.keys.now (keys' k) H.key_count H.keys_hold
 
-slice-reshare-prefix-answer-table-2 : tie.Need-slice-reshare-prefix-answer-table-2
+slice-reshare-prefix-answer-table-2 : tie.Need-slice_bounds-answer_table-end-in-Taken-2
 slice-reshare-prefix-answer-table-2 c =
-    let k = c.before in
+    let k = c in
     let H = holds k in start_within (lines k) H.qs (start k).args.asks.now (asks' k) H.ask_count H.asks_hold
 
-slice-aggregate-answer-table-2 : tie.Need-slice-aggregate-answer-table-2
+slice-aggregate-answer-table-2 : tie.Need-slice_bounds-answer_table-end-in-Taken-3
 slice-aggregate-answer-table-2 c =
-    let k = c.before.before in
+    let k = c in
     let H = holds k in start_long (lines k) H.qs (start k).args.asks.now (asks' k) H.ask_count H.asks_hold
 
-answer-table-requires : tie.Need-answer-table-requires
-answer-table-requires c κs = keys_few (holds c.before.before.before)
+answer-table-requires : tie.Need-answer_table-requires
+answer-table-requires c κs = keys_few (holds c.before)
 
-returns : tie.Need-returns
+returns : tie.Need-returns-in-Taken
 returns c =
     let t = c.before.before in
-    read_shows (holds t.before.before.before.before) t.answer-table.ensures
+    read_shows (holds t.before.before) t.answer_table.ensures
 
-returns-2 : tie.Need-returns-2
+returns-2 : tie.Need-returns-in-Refused
 returns-2 c =
-    let r = c.before.before.before.before.before.before.before.before.before.before in
+    let r = c.before.before.before.before.before.before.before.before.before in
     let s = r.before.before.before.before.before.before.before in
-    refused_shows s.args.input.now s.args.keys.now s.args.asks.now r.read-input.new.1.0
-    r.read-input.new.1.1.0 r.read-input.ensures s.requires.0 s.requires.1
-    c.before.before.before.before.enum_told.given.1 c.before.before.refuse.ensures
+    refused_shows s.args.input.now s.args.keys.now s.args.asks.now r.read_input.new.keys
+    r.read_input.new.asks r.read_input.ensures s.requires.0 s.requires.1
+    c.in-Refused.is c.refuse.ensures
 
-pub answer-read-spec : {M : Type 1} → statement M
-answer-read-spec =
+pub answer_read_spec : {M : Type 1} → statement M
+answer_read_spec =
     tie.close
     (tie.spec (λ c κs. search rules) (λ c. search rules) slice-reshare-prefix-answer-table
     slice-aggregate-answer-table slice-reshare-prefix-answer-table-2 slice-aggregate-answer-table-2
