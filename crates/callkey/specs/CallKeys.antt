@@ -2,7 +2,6 @@
 use Rattle.std.specs.Prelude.{cond, List, [], ◌∷◌, ℕ, ◌-◌, ◌^◌, ltb, get_or}
 use Rattle.refusals.specs.Numbers.{number, names}
 use Rattle.callkey.specs.Fields.{joined, parted}
-use Rattle.callkey.specs.declared.Fields.{Fields}
 use Rattle.callkey.specs.declared.Packed.{Packed}
 use Rattle.callkey.specs.declared.Packed.TheVariants as packed
 use Rattle.callkey.specs.declared.Unpacked.{Unpacked}

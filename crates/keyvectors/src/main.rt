@@ -2,6 +2,7 @@
 #![tactic(auto)]
 
 use callkey::{Packed, Unpacked};
+
 const STDOUT_FILENO: i32 = 1;
 
 fn refused() {

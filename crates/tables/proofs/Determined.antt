@@ -1,5 +1,5 @@
 -- The bucket view is determined. Assumes nothing.
-use mathlib.Core.Path.{◌≡◌, sym, ◌∙◌}
+use mathlib.Core.Path.{sym, ◌∙◌}
 use Rattle.tables.specs.Determined.{ViewDetermined}
 
 pub view_determined : ViewDetermined

@@ -23,8 +23,7 @@ returns-2 c =
     let p = c.before.before.before.before.before.before.before.before.before.before in
     let a = p.args in
     let T = delimiters a.b a.keys.now in
-    let n = p.delimiter_count-n in
-    (
+    let n = p.delimiter_count-n in (
       wrote_first n.result (length T) (left_entry T) a.left.now c.fill_left.new.left c.root_of-r.result
           n.ensures.0 (omega arith) (omega arith)
           c.fill_left.auto.left (c.root_of-r.ensures.0 ∙ sym (left_root T)) c.fill_left.ensures,

@@ -4,7 +4,6 @@ use native.Mathlib.Omega.{arith}
 use mathlib.Core.Path.{sym, ◌∙◌}
 use borrow.Author.Count.{below_more}
 use borrow.Author.Tests.{not-true, not-false}
-use Rattle.digits.specs.Numbers.{is_digit}
 use Rattle.digits.proofs.decimal.run_end.Goals as goal
 
 pub loop-j-init : goal.loop-j-init

@@ -60,7 +60,7 @@ ended : (j : tie.Joined-n-t)
     (cleared_at j).clear.new.s j.if-n-t.cells
 ended j =
     elim j.if-n-t.branch [
-      then-n-t w ↦ ended_filled w.if-n-t.true w.fill_all.ensures w.fill_all.auto.cells w.cells-is
+      | then-n-t w ↦ ended_filled w.if-n-t.true w.fill_all.ensures w.fill_all.auto.cells w.cells-is
       | else-n-t w ↦ ended_left w.if-n-t.false w.cells-is
     ]
 
