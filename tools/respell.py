@@ -14,7 +14,7 @@ import re
 import sys
 
 WORD = re.compile(r'[^\s(){}.;,@"«»]+')
-HEAD = re.compile(r'(?m)^(?:  )?(?:(?:abbrev|unfoldable|pub|data|record|pattern) )*([^\s(){}.;,@"«»]+)(?: \{[^{}\n]*\})* :(?: |$)')
+HEAD = re.compile(r'(?m)^ *(?:(?:abbrev|unfoldable|pub|data|record|pattern) )*([^\s(){}.;,@"«»]+)(?: \{[^{}\n]*\})* :(?: |$)')
 CAMEL = re.compile(r"[a-z0-9₀-₉][A-Z]")
 COMMENT = re.compile(r"(?<!\S)--[^\n]*")
 SPAN = re.compile(r"`[^`\n]*`")
@@ -35,6 +35,7 @@ OTHER = {
     "shared-by-all": "shared_by_slice",
     "shared-with": "shared_with_slice",
     "slim-handles": "slim_handles_are",
+    "split-beside": "split_beside_told",
     "told-by": "told_from_walk",
 }
 
@@ -61,7 +62,7 @@ def table():
     """Old names, each with its new one."""
     rows = {}
     for path in texts(".antt"):
-        if path.endswith("/Proof.antt"):
+        if path.endswith(("/Proof.antt", "/Answers.antt", "/Invariants.antt")):
             continue
         for found in HEAD.finditer(read(path)):
             old = found[1]

@@ -50,14 +50,14 @@ module _ {keys : List ℕ} {b : ℕ} {s : Seeds} {S : Stores} (A : Answers keys 
       neighbour_refuses_none r (smaller keys x) (probes_of keys x) (stands_at keys x (smaller keys x)) (e ∙ A.counts x)
 
   module _ (bytes : List ℕ) (long : length keys ≤ length bytes) where
-    pub call-refused : (r : Refusal) → refused (number r) (names r) ≡ call_over keys bytes b s S x → ⊥
-    call-refused r e = let f = e ∙ A.calls bytes long x in differ (cc)
+    pub call_refused : (r : Refusal) → refused (number r) (names r) ≡ call_over keys bytes b s S x → ⊥
+    call_refused r e = let f = e ∙ A.calls bytes long x in differ (cc)
 
-    pub ask-said : (p : Place) (told : Told) (call : Called)
+    pub ask_said : (p : Place) (told : Told) (call : Called)
         → said_by_neighbour (near.At p) ≡ neighbour_over keys S s.three x
         → outcome told ≡ call_over keys bytes b s S x → call ≡ called_of told
         → ask_lines keys x ≡ ask_text x call p.before p.probes
-    ask-said p told call e f g =
+    ask_said p told call e f g =
         let c : call ≡ row_of Row Absent keys x =
         g ∙ ap called_of (one_outcome (f ∙ A.calls bytes long x))
         ∙ called bytes (stands_at keys x (smaller keys x)) (smaller keys x) in

@@ -11,7 +11,7 @@ use Rattle.digits.specs.Texts.{Writes}
 use Rattle.digits.specs.declared.Next.TheVariants.{At, Off}
 use Rattle.digits.proofs.Placing.{writes_length}
 use Rattle.lines.specs.Lines.{texts}
-use Rattle.lines.proofs.Putting.{room-off, room-more, put-short, put-more, put-end}
+use Rattle.lines.proofs.Putting.{room_off, room_more, put_short, put_more, put_end}
 use Rattle.asks.specs.Inner.{Prints}
 
 -- what was written is printed
@@ -40,35 +40,35 @@ module _ (line : ℕ → List ℕ) (xs out : List ℕ) (i : ℕ) where
     left_is : (length out - at) + length (texts line (take k xs)) ≡ length out - i
     left_is = let a = writes_within (texts line (take k xs)) out mid i at w in omega arith
 
-    mid-length : length mid ≡ length out
-    mid-length = writes_length (texts line (take k xs)) out mid i (At at) w
+    mid_length : length mid ≡ length out
+    mid_length = writes_length (texts line (take k xs)) out mid i (At at) w
 
-    pub next-off : (after : List ℕ) → Writes (line (get_or xs k 0)) mid at after Off
+    pub next_off : (after : List ℕ) → Writes (line (get_or xs k 0)) mid at after Off
         → Prints (texts line xs) out i after Off
-    next-off after g =
+    next_off after g =
         let a = writes_within (texts line (take k xs)) out mid i at w in
         let s = writes_short (line (get_or xs k 0)) mid after at g in
-        let m = mid-length in
+        let m = mid_length in
         prints_off (texts line xs) out after i
-        (put-short line xs out i (omega arith)
-        (room-off line xs (length out - i) (length out - at) k (length (line (get_or xs k 0))) h left_is refl (omega arith)))
+        (put_short line xs out i (omega arith)
+        (room_off line xs (length out - i) (length out - at) k (length (line (get_or xs k 0))) h left_is refl (omega arith)))
 
-    pub next-at : (after : List ℕ) (j : ℕ) → Writes (line (get_or xs k 0)) mid at after (At j)
+    pub next_at : (after : List ℕ) (j : ℕ) → Writes (line (get_or xs k 0)) mid at after (At j)
         → Writes (texts line (take (k + 1) xs)) out i after (At j)
-    next-at after j g =
+    next_at after j g =
         let a = writes_within (texts line (take k xs)) out mid i at w in
         let s = writes_within (line (get_or xs k 0)) mid after at j g in
-        let m = mid-length in
+        let m = mid_length in
         let r =
-        room-more line xs (length out - i) (length out - at) k (length (line (get_or xs k 0))) h left_is refl
+        room_more line xs (length out - i) (length out - at) k (length (line (get_or xs k 0))) h left_is refl
         (omega arith) in
         let n : length (take (k + 1) xs) ≡ k + 1 = length-take-le (k + 1) xs (omega arith) in
         let first : take k (take (k + 1) xs) ≡ take k xs = take-take k (k + 1) xs (omega arith) in
         let next : get_or (take (k + 1) xs) k 0 ≡ get_or xs k 0 = get_or-take (k + 1) xs k 0 (omega arith) in
         rw (take-take (k + 1) (k + 1) xs (le_refl (k + 1))) at
-        (put-more line (take (k + 1) xs) out i k at j mid after (At j) (omega arith) (omega arith)
+        (put_more line (take (k + 1) xs) out i k at j mid after (At j) (omega arith) (omega arith)
         (rw first w) (rw next g) refl)
 
   pub all_at : (k at : ℕ) (after : List ℕ) → k ≡ length xs
       → Writes (texts line (take k xs)) out i after (At at) → Prints (texts line xs) out i after (At at)
-  all_at k at after e w = writes_prints (texts line xs) out after i at (put-end line xs out i k at after e w)
+  all_at k at after e w = writes_prints (texts line xs) out after i at (put_end line xs out i k at after e w)

@@ -82,28 +82,28 @@ module _ {keys : List ℕ} {b : ℕ} {cells work : List ℕ} (A : Buildable keys
   module _ {seed₁ : ℕ} {cells₁ work₁ : List ℕ} {size₁ : ℕ}
       (B₁ : KeysBuilt keys b seed₁ cells work size₁ cells₁ work₁) where
     -- past the named length nothing of the store changes
-    pub first-beyond : drop (call_cells n b) cells₁ ≡ drop (call_cells n b) cells
-    first-beyond =
+    pub first_beyond : drop (call_cells n b) cells₁ ≡ drop (call_cells n b) cells
+    first_beyond =
         sym (drop-drop (cell_count k) c cells₁) ∙ ap (drop (cell_count k)) (cells_beyond seed₁ keys B₁)
         ∙ drop-drop (cell_count k) c cells
 
     module _ {seed₂ : ℕ} {cells₂ work₂ : List ℕ} {size₂ : ℕ}
         (B₂ : PrefixesBuilt keys b seed₂ cells₁ work₁ size₂ cells₂ work₂) where
-      pub second-beyond : drop (call_cells n b) cells₂ ≡ drop (call_cells n b) cells
-      second-beyond =
+      pub second_beyond : drop (call_cells n b) cells₂ ≡ drop (call_cells n b) cells
+      second_beyond =
           sym (drop-drop (cell_count k) c cells₂)
           ∙ rw (length_prefixes b keys) at (cells_beyond seed₂ (prefix_items b keys) B₂.part)
-          ∙ drop-drop (cell_count k) c cells₁ ∙ first-beyond
+          ∙ drop-drop (cell_count k) c cells₁ ∙ first_beyond
 
       -- the work that map 2 leaves is that of map 1, which was longer
-      pub both-swept : work₂ ≡ cleared (call_work n) work
-      both-swept =
+      pub both_swept : work₂ ≡ cleared (call_work n) work
+      both_swept =
           let w = work_count (length (prefix_items b keys)) in
           let less : w ≤ call_work n = rw (length_prefixes b keys) (fewer_work k n few_buckets) in
           B₂.part.swept ∙ ap (cleared w) B₁.swept ∙ cleared_within w (call_work n) work less
 
-      pub both-filled : size₁ ≡ 0 → size₂ ≡ 0 → CallFilled keys b seed₁ seed₂ cells cells₂
-      both-filled h₁ h₂ =
+      pub both_filled : size₁ ≡ 0 → size₂ ≡ 0 → CallFilled keys b seed₁ seed₂ cells cells₂
+      both_filled h₁ h₂ =
           let F = (B₁.accepted h₁).1 in
           let long : c ≤ length cells = omega (arith, A.cells_long) in
           record {

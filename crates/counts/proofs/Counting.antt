@@ -1,6 +1,6 @@
 -- Items counted at their cells, one after another.
---     counted_none, counted-more    what the loop of `count_all` keeps
---     counted-few                   a count stays below 65,535
+--     counted_none, counted_more    what the loop of `count_all` keeps
+--     counted_few                   a count stays below 65,535
 -- Assumes nothing.
 use mathlib.Core.Path.{refl, ap, ◌∙◌}
 use mathlib.Core.List.{List}

@@ -1,6 +1,6 @@
 -- The cells that are found for an item.
---     cells-found             three cells computed from a hash are those of its item
---     touches-as, put_as      what holds of the cells found for an item holds of the item
+--     cells_found             three cells computed from a hash are those of its item
+--     touches_as, put_as      what holds of the cells found for an item holds of the item
 -- Assumes nothing.
 use mathlib.Core.Path.{◌≡◌, sym, ◌∙◌}
 use mathlib.Core.List.{List}

@@ -10,7 +10,7 @@ use Rattle.walks.specs.Walk.{agrees, probe_at, accepted, descend}
 use Rattle.descent.specs.Inner.{Stepped}
 use Rattle.descent.specs.declared.State.{State}
 use Rattle.walks.proofs.Paths.{probe_fattest}
-use Rattle.walks.proofs.Descending.{Acceptable, accepted_means, turn, descend-goes, descend-stops}
+use Rattle.walks.proofs.Descending.{Acceptable, accepted_means, turn, descend_goes, descend_stops}
 
 -- keys have the same first l bits exactly if they share as many
 pub share_test : (x k l : ℕ) → x < 2 ^ 64 → k < 2 ^ 64 → l ≤ 64
@@ -37,14 +37,14 @@ module _ (T : List ℕ) (lens : ℕ → ℕ) (x : ℕ) where
 
   -- one probe, at f, where the look-up gave m
   module _ (find : ℕ → ℕ) (node upper f m : ℕ) (e : f ≡ probe_at (lens node) upper) (e' : m ≡ find f) where
-    pub stepped-to : (l last : ℕ) → l ≡ lens m → last + 1 ≡ upper → accepted T lens x f upper m ≡ true
+    pub stepped_to : (l last : ℕ) → l ≡ lens m → last + 1 ≡ upper → accepted T lens x f upper m ≡ true
         → Stepped T lens x find node upper (record { node = m; lower = l; last = last })
-    stepped-to l last is top ok =
+    stepped_to l last is top ok =
         record { node_is = rw (← e, ← e', ok); upper_is = rw (← e, ← e', ok) top; lower_is = is }
 
-    pub stepped-under : (l last : ℕ) → l ≡ lens node → last + 1 ≡ f → accepted T lens x f upper m ≡ false
+    pub stepped_under : (l last : ℕ) → l ≡ lens node → last + 1 ≡ f → accepted T lens x f upper m ≡ false
         → Stepped T lens x find node upper (record { node = node; lower = l; last = last })
-    stepped-under l last is top ok =
+    stepped_under l last is top ok =
         record { node_is = rw (← e, ← e', ok); upper_is = rw (← e, ← e', ok) top; lower_is = is }
 
 -- the 2-fattest number above lower and up to last is where the walk probes
@@ -88,7 +88,7 @@ pub going_end : {T : List ℕ} {lens : ℕ → ℕ} {x : ℕ} {find : ℕ → �
     → Going T lens x find root node lower upper probes → upper ≤ suc lower
     → (node ≡ (descend T lens x find 64 root 64).node) × (probes ≡ length (descend T lens x find 64 root 64).probed)
 going_end {T} {lens} {x} {find} {root} {node} {lower} {upper} {probes} G h =
-    let e = descend-stops T lens x find G.turns node upper (omega (arith, G.is)) in
+    let e = descend_stops T lens x find G.turns node upper (omega (arith, G.is)) in
     (rw e at G.same, omega (arith, rw e at G.counted))
 
 module _ (T : List ℕ) (lens : ℕ → ℕ) (x : ℕ) (find : ℕ → ℕ) (node upper : ℕ) (s : State)
@@ -99,7 +99,7 @@ module _ (T : List ℕ) (lens : ℕ → ℕ) (x : ℕ) (find : ℕ → ℕ) (nod
   descend_next : (k : ℕ) → let rest = descend T lens x find k s.node (s.last + 1) in
       descend T lens x find (suc k) node upper ≡ record { probed = at ∷ rest.probed; node = rest.node }
   unfolding turn
-  descend_next k = rw (S.node_is, S.upper_is) (descend-goes T lens x find k node upper h)
+  descend_next k = rw (S.node_is, S.upper_is) (descend_goes T lens x find k node upper h)
 
   -- a probe brings the node and upper nearer to each other
   nearer : (k : ℕ) → upper ≤ suc (lens node) + suc k → upper ≤ 64 → 0 < node → node < length T

@@ -146,23 +146,23 @@ module _ (s : List ℕ) (i most e : ℕ) where
 
   module _ (v : ℕ) (room : i + 17 ≤ length s) (fits : v < 16 ^ 16) (text : digits_in 16 16 v ≡ slice i (i + 16) s)
       (last : get_or s (i + 16) 0 ≡ e) where
-    hex-has : Has s i (ended hex_text e v) (i + 17)
+    hex_has : Has s i (ended hex_text e v) (i + 17)
     unfolding hex_text
-    hex-has =
+    hex_has =
         let a : i + 17 ≡ i + 16 + 1 = omega arith in
         slice_has s i (i + 17) (ended hex_text e v) (omega arith) room
         (rw (text, a, slice_snoc s i (i + 16) (omega arith) (omega arith), last))
         (ended_length v ∙ omega arith)
 
     -- a number above the limit
-    pub hex-over : most < v → Reads most (ended hex_text e) s i Bad
+    pub hex_over : most < v → Reads most (ended hex_text e) s i Bad
     unfolding Reads
-    hex-over h w hw rest f =
+    hex_over h w hw rest f =
         let same : v ≡ w =
         hex_unique v e (omega arith) v w (drop (i + 17) s) rest (omega arith) (omega arith)
-        (sym hex-has.from.1 ∙ f.1) in
+        (sym hex_has.from.1 ∙ f.1) in
         omega arith
 
-    pub hex-value-is : v ≤ most → Reads most (ended hex_text e) s i (Value v (i + 17))
+    pub hex_value_is : v ≤ most → Reads most (ended hex_text e) s i (Value v (i + 17))
     unfolding Reads
-    hex-value-is h = (h, hex-has)
+    hex_value_is h = (h, hex_has)

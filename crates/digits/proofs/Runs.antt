@@ -87,16 +87,16 @@ module _ (s : List ℕ) (i j e : ℕ) (run : Run s i j) where
     unfolding ReadsAmount
     none_other h v he rest f = h (whole v rest he f).2
 
-    pub none-empty : j ≡ i → ReadsAmount most e s i Wrong
+    pub none_empty : j ≡ i → ReadsAmount most e s i Wrong
     unfolding ReadsAmount
-    none-empty h v he rest f =
+    none_empty h v he rest f =
         let w = (whole v rest he f).1 in
         let a : length (slice i j s) ≡ length (decimal_text v) = ap length w in
         omega (arith, length-slice i j s run.within, text_some v)
 
-    pub none-zero : get_or s i 0 ≡ 48 → i + 1 < j → ReadsAmount most e s i Wrong
+    pub none_zero : get_or s i 0 ≡ 48 → i + 1 < j → ReadsAmount most e s i Wrong
     unfolding ReadsAmount
-    none-zero h g v he rest f =
+    none_zero h g v he rest f =
         let w = (whole v rest he f).1 in
         let a : decimal_text v ≡ get_or s i 0 ∷ slice (suc i) j s =
         sym w ∙ slice-cons i j s 0 (omega arith) run.within in
@@ -105,8 +105,8 @@ module _ (s : List ℕ) (i j e : ℕ) (run : Run s i j) where
 
   -- the run is the text of its number
   module _ (some : i < j) (plain : get_or s i 0 ≡ 48 → j ≤ i + 1) (h : j < length s) (last : get_or s j 0 ≡ e) where
-    run-text : decimal_text (folded 0 (slice i j s)) ≡ slice i j s
-    run-text =
+    run_text : decimal_text (folded 0 (slice i j s)) ≡ slice i j s
+    run_text =
         let a : slice i j s ≡ get_or s i 0 ∷ slice (suc i) j s = slice-cons i j s 0 some run.within in
         let d : Digits (get_or s i 0 ∷ slice (suc i) j s) = subst Digits a run_digits in
         ap (λ (l : List ℕ). decimal_text (folded 0 l)) a
@@ -114,19 +114,19 @@ module _ (s : List ℕ) (i j e : ℕ) (run : Run s i j) where
         (λ z. let p = plain z in nothing (slice (suc i) j s) (omega (arith, length-slice (suc i) j s run.within)))
         ∙ sym a
 
-    run-has : Has s i (ended decimal_text e (folded 0 (slice i j s))) (j + 1)
-    run-has = record {
+    run_has : Has s i (ended decimal_text e (folded 0 (slice i j s))) (j + 1)
+    run_has = record {
       from = (
         omega (arith, run.order),
         slice_join s i j run.order run.within
-            ∙ rw (drop-cons s j 0 h, run-text, last, append_assoc, add-one),
+            ∙ rw (drop-cons s j 0 h, run_text, last, append_assoc, add-one),
       );
-      to = rw (run-text, length-append) (omega (arith, length-slice i j s run.within, run.order));
+      to = rw (run_text, length-append) (omega (arith, length-slice i j s run.within, run.order));
     }
 
-    pub run-amount : (most : ℕ) (r : Amount) → is_digit e ≡ false
+    pub run_amount : (most : ℕ) (r : Amount) → is_digit e ≡ false
         → Limited most (folded 0 (slice i j s)) (j + 1) r → ReadsAmount most e s i r
     unfolding ReadsAmount Limited
-    run-amount most (Is v k) he x = (he, rw x.0 x.1, rw (x.0, x.2) run-has)
-    run-amount most (Over k) he x = (he, (folded 0 (slice i j s), x.0, rw x.1 run-has))
-    run-amount most Wrong he x = absurd x
+    run_amount most (Is v k) he x = (he, rw x.0 x.1, rw (x.0, x.2) run_has)
+    run_amount most (Over k) he x = (he, (folded 0 (slice i j s), x.0, rw x.1 run_has))
+    run_amount most Wrong he x = absurd x

@@ -1,8 +1,8 @@
 -- Filling the cells: one store gives an item its value, and the items that do not touch the cell keep theirs.
---     value-here, value_there      an item's value after a store
---     store-fixes                  the store of `fill_turn`
+--     value_here, value_there      an item's value after a store
+--     store_fixes                  the store of `fill_turn`
 --     cell_below                   a turn's cell is one of the map's
---     fill_none, turn, fill-all    what the loop of `fill_all` keeps, and what it ends with
+--     fill_none, turn, fill_all    what the loop of `fill_all` keeps, and what it ends with
 -- Assumes nothing.
 use mathlib.Core.Path.{◌≡◌, refl, sym, ap, ap₂, ◌∙◌, subst}
 use mathlib.Core.Bool.{true}

@@ -12,10 +12,10 @@ use Rattle.tables.proofs.Delimiting.{delimiters_one}
 use Rattle.stores.specs.Sizes.{full_sizes}
 use Rattle.stores.specs.Stores.{Stores, lent, seeds}
 use Rattle.call.specs.Inner.{Buildable, KeysBuilt, PrefixesBuilt}
-use Rattle.call.proofs.Joining.{first-beyond, second-beyond, both-swept, both-filled}
+use Rattle.call.proofs.Joining.{first_beyond, second_beyond, both_swept, both_filled}
 use Rattle.neighbour.specs.Inner.{Storable, StoresBuilt}
 use Rattle.neighbour.proofs.Storing.{storable, swept_after, stores_filled}
-use Rattle.neighbour.proofs.Storing.{handles-beyond, left-beyond, right-beyond, lengths-beyond}
+use Rattle.neighbour.proofs.Storing.{handles_beyond, left_beyond, right_beyond, lengths_beyond}
 use Rattle.verdicts.specs.Inner.{Mapped}
 use Rattle.verdicts.specs.declared.Maps.TheVariants.{Built, Jammed}
 use Rattle.verdicts.proofs.Clearing.{cleared_past, cells_written}
@@ -52,24 +52,24 @@ module _ {keys : List ℕ} {b : ℕ} {S : Stores} (R : FullReady keys b S) where
 
   module _ {seed₁ : ℕ} {cells₁ work₁ : List ℕ} {size₁ : ℕ}
       (B₁ : KeysBuilt keys b seed₁ S.cells S.work size₁ cells₁ work₁) where
-    pub first-jams : (seed₂ seed₃ : ℕ) → 0 < size₁
+    pub first_jams : (seed₂ seed₃ : ℕ) → 0 < size₁
         → MapsBuilt keys b (seeds seed₁ seed₂ seed₃) S (Jammed 1 size₁)
         (lent cells₁ S.handles S.left S.right work₁ S.lengths)
     unfolding Mapped
-    first-jams seed₂ seed₃ h = (
+    first_jams seed₂ seed₃ h = (
       in₁ (B₁.refused h).0,
-      cells_written (full_sizes n b) S (first-beyond A B₁) B₁.swept,
+      cells_written (full_sizes n b) S (first_beyond A B₁) B₁.swept,
     )
 
     module _ {seed₂ : ℕ} {cells₂ work₂ : List ℕ} {size₂ : ℕ} (h₁ : size₁ ≤ 0)
         (B₂ : PrefixesBuilt keys b seed₂ cells₁ work₁ size₂ cells₂ work₂) where
-      pub second-jams : (seed₃ : ℕ) → 0 < size₂
+      pub second_jams : (seed₃ : ℕ) → 0 < size₂
           → MapsBuilt keys b (seeds seed₁ seed₂ seed₃) S (Jammed 2 size₂)
           (lent cells₂ S.handles S.left S.right work₂ S.lengths)
       unfolding Mapped
-      second-jams seed₃ h = (
+      second_jams seed₃ h = (
         in₂ (B₁.accepted (omega arith)).0 (B₂.part.refused h).0,
-        cells_written (full_sizes n b) S (second-beyond A B₁ B₂) (both-swept A B₁ B₂),
+        cells_written (full_sizes n b) S (second_beyond A B₁ B₂) (both_swept A B₁ B₂),
       )
 
       module _ {seed₃ : ℕ} {handles₃ left₃ right₃ work₃ lengths₃ : List ℕ} {size₃ : ℕ} (h₂ : size₂ ≤ 0)
@@ -81,29 +81,29 @@ module _ {keys : List ℕ} {b : ℕ} {S : Stores} (R : FullReady keys b S) where
         C₃ = rw (delimiters_one keys) at B₃
 
         swept : work₃ ≡ cleared (call_work n) S.work
-        swept = swept_after C₃ n S.work (le_refl n) (both-swept A B₁ B₂)
+        swept = swept_after C₃ n S.work (le_refl n) (both_swept A B₁ B₂)
 
-        pub third-jams : 0 < size₃
+        pub third_jams : 0 < size₃
             → MapsBuilt keys b (seeds seed₁ seed₂ seed₃) S (Jammed 3 size₃)
             (lent cells₂ handles₃ left₃ right₃ work₃ lengths₃)
         unfolding Mapped
-        third-jams h = (
+        third_jams h = (
           in₃ (B₁.accepted (omega arith)).0 (B₂.part.accepted (omega arith)).0 (C₃.map₃.refused h).0,
           record {
-            cells = second-beyond A B₁ B₂;
-            handles = handles-beyond C₃ refl;
-            left = left-beyond C₃ refl;
-            right = right-beyond C₃ refl;
+            cells = second_beyond A B₁ B₂;
+            handles = handles_beyond C₃ refl;
+            left = left_beyond C₃ refl;
+            right = right_beyond C₃ refl;
             work = cleared_past (call_work n) S.work swept;
-            lengths = lengths-beyond C₃ refl;
+            lengths = lengths_beyond C₃ refl;
           },
         )
 
-        pub all-built : size₃ ≤ 0
+        pub all_built : size₃ ≤ 0
             → MapsBuilt keys b (seeds seed₁ seed₂ seed₃) S Built
             (lent cells₂ handles₃ left₃ right₃ work₃ lengths₃)
         unfolding Mapped
-        all-built h =
+        all_built h =
             let S' = lent cells₂ handles₃ left₃ right₃ work₃ lengths₃ in (
               record {
                 one = (B₁.accepted (omega arith)).0;
@@ -111,7 +111,7 @@ module _ {keys : List ℕ} {b : ℕ} {S : Stores} (R : FullReady keys b S) where
                 three = (C₃.map₃.accepted (omega arith)).0;
               },
               record {
-                call = both-filled A B₁ B₂ (omega arith) (omega arith);
+                call = both_filled A B₁ B₂ (omega arith) (omega arith);
                 neighbour = stores_filled S' C₃ (omega arith);
                 work = swept;
               },

@@ -1,7 +1,7 @@
 -- The first map that has a jam.
---     first-jam-one    there is one, and its largest jam has one size
---     jam-not-none     where there is one, there are not no jams
---     jam-sized        a jam has two items at least, and no more than there are keys
+--     first_jam_one    there is one, and its largest jam has one size
+--     jam_not_none     where there is one, there are not no jams
+--     jam_sized        a jam has two items at least, and no more than there are keys
 -- Assumes nothing.
 use mathlib.Core.Path.{◌≡◌, refl}
 use mathlib.Core.List.{List}

@@ -20,7 +20,7 @@ use Rattle.index.specs.Demands.{BuildRefusesJams, SizeIsTheLargest, SearchIsExac
 use Rattle.index.specs.Demands.{LengthsAreTrue, WalkIsUnchanged}
 use Rattle.index.proofs.Jamming.{not_jammed_jamless, named_jams, names_iff, taken_iff, five_iff}
 use Rattle.index.proofs.Accepted.{full_accepted, accepted_table, accepted_stored}
-use Rattle.index.proofs.Searching.{stored_true, stored_unchanged, stored-agrees, searched}
+use Rattle.index.proofs.Searching.{stored_true, stored_unchanged, stored_agrees, searched}
 use Rattle.index.proofs.Answering.{counts_answer}
 
 -- by the map that has the first jam
@@ -119,7 +119,7 @@ search_is_exact keys b s S S' w two B x h =
 
 pub walks_agree : WalksAgree
 walks_agree keys b s S S' w B =
-    let A = full_accepted B in stored-agrees keys s.three S' (accepted_stored A) (accepted_table A w)
+    let A = full_accepted B in stored_agrees keys s.three S' (accepted_stored A) (accepted_table A w)
 
 pub six_at_most : SixAtMost
 six_at_most keys seed S x before probes stands e =

@@ -36,8 +36,8 @@ module _ (T : List ℕ) (seed : ℕ) (S : Stores) (R : StoredIn T seed S) where
   stored_unchanged x = true_lengths T x _ _ _ _ stored_true.1
 
   module _ (t : Table T) where
-    pub stored-agrees : WalksByTable T seed S
-    stored-agrees x =
+    pub stored_agrees : WalksByTable T seed S
+    stored_agrees x =
         stored_walk T t x (map_value S.handles (handle_count (length T)) seed) S.left S.right S.lengths R
 
     -- what says how many keys of T are smaller, with the probes of the walk over T
@@ -50,7 +50,7 @@ module _ (T : List ℕ) (seed : ℕ) (S : Stores) (R : StoredIn T seed S) where
         stands_at T x (smaller T x),
         record {
           exact = e;
-          counted = ap (λ (v : Walk). length v.probed) (sym (stored-agrees x) ∙ stored_unchanged x);
+          counted = ap (λ (v : Walk). length v.probed) (sym (stored_agrees x) ∙ stored_unchanged x);
           few = path_probes T t x;
           six = digits_six (shared_by_all T);
           where_it_stands = stands_iff T t x;

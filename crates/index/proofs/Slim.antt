@@ -31,7 +31,7 @@ use Rattle.index.specs.Slim.{SlimLengthsAreTrue, SlimWalkIsUnchanged}
 use Rattle.index.proofs.Answering.{row_smaller, calls_answer}
 use Rattle.index.proofs.Telling.{by_its_byte, table_tells, in_order}
 use Rattle.index.proofs.Jamming.{not_jammed_jamless, named_jams, names_iff, taken_iff, five_iff}
-use Rattle.index.proofs.Searching.{stored_true, stored_unchanged, stored-agrees, searched}
+use Rattle.index.proofs.Searching.{stored_true, stored_unchanged, stored_agrees, searched}
 use Rattle.index.proofs.Buckets.{bucket_before}
 use Rattle.index.proofs.SlimAnswering.{says_one, told_again, slim_at, slim_some, slim_table, slim_delimiters}
 use Rattle.index.proofs.SlimAnswering.{slim_stored, slim_answers}
@@ -149,7 +149,7 @@ slim_search_is_exact keys b seed₁ seed₃ S S' w two B bytes long x h =
 
 pub slim_walks_agree : SlimWalksAgree
 slim_walks_agree keys b seed₁ seed₃ S S' w B =
-    stored-agrees (delimiters b keys) seed₃ S' (slim_stored B) (slim_delimiters B w)
+    stored_agrees (delimiters b keys) seed₃ S' (slim_stored B) (slim_delimiters B w)
 
 pub slim_six_at_most : SlimSixAtMost
 slim_six_at_most keys bytes b seed₁ seed₃ S x before probes stands e =

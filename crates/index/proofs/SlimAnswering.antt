@@ -16,7 +16,7 @@ use Rattle.stores.specs.Sizes.{Fits}
 use Rattle.stores.specs.Stores.{Stores, sizes_beside}
 use Rattle.stores.specs.declared.Sizes.{Sizes}
 use Rattle.stores.proofs.Limiting.{Within}
-use Rattle.items.proofs.Values.{row_is, offset_is, row-bucket}
+use Rattle.items.proofs.Values.{row_is, offset_is, row_bucket}
 use Rattle.outcomes.specs.Outcomes.{Told, row_says, marked}
 use Rattle.outcomes.specs.declared.Located.{Located}
 use Rattle.outcomes.specs.declared.Located.TheVariants.{At, Nowhere}
@@ -149,7 +149,7 @@ module _ {keys : List ℕ} {b seed₁ seed₃ : ℕ} {S S' : Stores} (B : SlimBu
       let at : r / b * b + map_value S'.cells (length keys) seed₁ x ≡ r =
       ap (λ (o : ℕ). r / b * b + o) offset ∙ row_is b r in
       rw (bucket_before b keys slim_some (slim_table w) r h)
-      (bucket_row keys b seed₁ S'.cells x (r / b) (row-bucket b keys (accepted_sorted A w) r h)
+      (bucket_row keys b seed₁ S'.cells x (r / b) (row_bucket b keys (accepted_sorted A w) r h)
       ∙ ap (λ (q : ℕ). row_says keys q x) at ∙ row_found keys x r h refl)
 
   -- so what is found in the bucket that the walk counts is what the table says

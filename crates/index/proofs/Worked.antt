@@ -28,7 +28,7 @@ use Rattle.items.proofs.Handling.{length_handles}
 use Rattle.jams.specs.Jam.{touch, size_of, Jamless}
 use Rattle.jams.specs.Inner.Peel.{touchb, live}
 use Rattle.jams.proofs.Jams.{all_peeled}
-use Rattle.jams.proofs.Ordering.{all_below, orderb, order-test}
+use Rattle.jams.proofs.Ordering.{all_below, orderb, order_test}
 use Rattle.jams.proofs.Jams.{one_item_never_jams}
 use Rattle.walks.specs.Walk.{Walk, accepted, descend, decide, walk, path_to, path_walk}
 use Rattle.walks.proofs.Testing.{tableb, table_by}
@@ -101,7 +101,7 @@ peeled : (seed : ℕ) (items order cells : List ℕ)
     → orderb (touch seed items) (length items) (at order) (at cells) ≡ true → Jamless seed items
 peeled seed items order cells h =
     all_peeled (touch seed items) (length items) (at order) (at cells) (length items)
-    (order-test (touch seed items) (length items) (at order) (at cells) h) refl
+    (order_test (touch seed items) (length items) (at order) (at cells) h) refl
 
 -- so they are with seed 0
 eleven_jamless : NoJams eleven 3 (seeds 0 0 0)

@@ -41,13 +41,13 @@ module _ (b : ℕ) (T left right : List ℕ) (k : Bounds b T left right) where
 
   module _ (i : ℕ) (h : i + 2 < length (delimiters b T)) where
     -- the split of item i, by the root that entry 0 of `left` holds
-    pub split-beside : split_beside (get_or left 0 0) i ≡ handle_split (delimiters b T) i
+    pub split_beside_told : split_beside (get_or left 0 0) i ≡ handle_split (delimiters b T) i
     unfolding handle_split
-    split-beside = rw (k.left_is 0 (omega arith), left_root (delimiters b T))
+    split_beside_told = rw (k.left_is 0 (omega arith), left_root (delimiters b T))
 
     -- the stores hold its bounds, and it is not the root
-    pub split-bounded : Bounded b T left right (handle_split (delimiters b T) i) × (handle_split (delimiters b T) i ≡ root (delimiters b T) → ⊥)
-    split-bounded =
+    pub split_bounded : Bounded b T left right (handle_split (delimiters b T) i) × (handle_split (delimiters b T) i ≡ root (delimiters b T) → ⊥)
+    split_bounded =
         let m = handle_split (delimiters b T) i in
         let ok = split_ok (delimiters b T) i h in
         let split : SplitOf b T m = record { bucketed = k.bucketed; pos = ok.0; small = ok.1 } in
@@ -58,8 +58,8 @@ module _ (b : ℕ) (T left right : List ℕ) (k : Bounds b T left right) where
         (record { rising = rising; left_room = omega arith; right_room = omega arith; left_is = left_is; right_is = right_is }, ok.2)
 
     -- it fits 16 bits
-    pub split-small : handle_split (delimiters b T) i < 32768
-    split-small = omega (arith, delimiters_few, split_ok (delimiters b T) i h)
+    pub split_small : handle_split (delimiters b T) i < 32768
+    split_small = omega (arith, delimiters_few, split_ok (delimiters b T) i h)
 
 -- the stores that a build of bounds leaves are such
 pub stores_bounds : (b : ℕ) (T lefts rights : List ℕ) → Table T → Bucketed b T

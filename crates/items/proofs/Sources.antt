@@ -12,8 +12,8 @@ use Rattle.items.specs.declared.Items.TheVariants.{Keys, Prefixes, Handles, Offs
 use Rattle.items.specs.Items.{items_of, values_of, Sorted, Bounds, Known}
 use Rattle.items.specs.Vouched.{EachHasAValue, ValuesFit}
 use Rattle.items.proofs.Values.{length_prefixes, length_numbers, number_is, length_key_values, key_value_is}
-use Rattle.items.proofs.Values.{key-value-small, length_offsets, offset_is, row-offset}
-use Rattle.items.proofs.Handling.{length_handles, length_splits, split_is, split-small}
+use Rattle.items.proofs.Values.{key_value_small, length_offsets, offset_is, row_offset}
+use Rattle.items.proofs.Handling.{length_handles, length_splits, split_is, split_small}
 
 -- a map on the keys themselves: map 1, of either profile
 abbrev pub OnKeys : Items → Type 0
@@ -43,19 +43,19 @@ module _ {w : Items} {b : ℕ} {T left right : List ℕ} where
   known_handles e k = rw e at k.source
 
   module _ {i : ℕ} where
-    pub asked-keys : OnKeys w → Known w b T left right × (i < length (items_of w b T))
+    pub asked_keys : OnKeys w → Known w b T left right × (i < length (items_of w b T))
         → Sorted b T × (i < length T)
-    asked-keys on p = (known_keys on p.0, rw (keys_items b T on) at p.1)
+    asked_keys on p = (known_keys on p.0, rw (keys_items b T on) at p.1)
 
-    pub asked-prefixes : w ≡ Prefixes → Known w b T left right × (i < length (items_of w b T))
+    pub asked_prefixes : w ≡ Prefixes → Known w b T left right × (i < length (items_of w b T))
         → Sorted b T × (i < buckets (length T) b)
     unfolding items_of
-    asked-prefixes e p = (known_prefixes e p.0, rw (e, length_prefixes b T) at p.1)
+    asked_prefixes e p = (known_prefixes e p.0, rw (e, length_prefixes b T) at p.1)
 
-    pub asked-handles : w ≡ Handles → Known w b T left right × (i < length (items_of w b T))
+    pub asked_handles : w ≡ Handles → Known w b T left right × (i < length (items_of w b T))
         → Bounds b T left right × (i + 2 < length (delimiters b T))
     unfolding items_of
-    asked-handles e p =
+    asked_handles e p =
         let few : i < length (delimiters b T) - 2 = rw (e, length_handles (delimiters b T)) at p.1 in
         (known_handles e p.0, omega arith)
 
@@ -71,13 +71,13 @@ each_has_a_value Offsets b T = length_offsets b T
 pub values_fit : ValuesFit
 unfolding values_of
 values_fit Keys b T left right k i h =
-    let p = asked-keys (inl refl) (k, h) in rw (key_value_is b T i p.1) (key-value-small b T p.0 i p.1)
+    let p = asked_keys (inl refl) (k, h) in rw (key_value_is b T i p.1) (key_value_small b T p.0 i p.1)
 values_fit Prefixes b T left right k i h =
-    let p = asked-prefixes refl (k, h) in
+    let p = asked_prefixes refl (k, h) in
     rw (number_is b T i p.1) (omega (arith, buckets_le (length T) b (omega arith)))
 values_fit Handles b T left right k i h =
-    let p = asked-handles refl (k, h) in
-    rw (split_is (delimiters b T) i p.1) (omega (arith, split-small b T left right p.0 i p.1))
+    let p = asked_handles refl (k, h) in
+    rw (split_is (delimiters b T) i p.1) (omega (arith, split_small b T left right p.0 i p.1))
 values_fit Offsets b T left right k i h =
-    let p = asked-keys (inr refl) (k, h) in
-    rw (offset_is b T i p.1) (omega (arith, row-offset b T p.0 i p.1))
+    let p = asked_keys (inr refl) (k, h) in
+    rw (offset_is b T i p.1) (omega (arith, row_offset b T p.0 i p.1))

@@ -12,7 +12,7 @@ use Rattle.tables.specs.Delimiters.{buckets, bucket_end, Bucketed}
 use Rattle.tables.specs.Buckets.{bucket_length, bucket_prefix}
 use Rattle.tables.proofs.Lists.{length_listed, listed_at}
 use Rattle.tables.proofs.Delimiting.{bucket_there, next_row}
-use Rattle.tables.proofs.Bucketing.{length-small, prefix_same}
+use Rattle.tables.proofs.Bucketing.{length_small, prefix_same}
 use Rattle.items.specs.Items.{key_values, prefix_items, bucket_numbers, offset_values, Sorted}
 
 -- a row is its bucket's first row and its offset
@@ -62,34 +62,34 @@ module _ (b : ℕ) (T : List ℕ) where
 
   module _ (s : Sorted b T) (r : ℕ) (h : r < length T) where
     -- the row's bucket is there, and the row lies in it
-    pub row-bucket : r / b < buckets (length T) b
-    row-bucket = bucket_there (length T) b (r / b) (omega arith) (omega (arith, div-mul-le_self r b))
+    pub row_bucket : r / b < buckets (length T) b
+    row_bucket = bucket_there (length T) b (r / b) (omega arith) (omega (arith, div-mul-le_self r b))
 
     row_low : r / b * b ≤ r
     row_low = div-mul-le_self r b
 
-    row-high : r < bucket_end (length T) b (r / b)
-    row-high = let some : 1 ≤ b = omega arith in omega (arith, next_row (r / b) b, lt-div-mul-add {a = r} some)
+    row_high : r < bucket_end (length T) b (r / b)
+    row_high = let some : 1 ≤ b = omega arith in omega (arith, next_row (r / b) b, lt-div-mul-add {a = r} some)
 
-    pub row-offset : r % b < 256
-    row-offset = offset_small b r (omega arith) s.most
+    pub row_offset : r % b < 256
+    row_offset = offset_small b r (omega arith) s.most
 
     pub bits_small : bucket_length b T (r / b) ≤ 63
-    bits_small = length-small T s.table b (r / b) (omega arith) row-bucket
+    bits_small = length_small T s.table b (r / b) (omega arith) row_bucket
 
     -- the value of a key tells its bucket's length and its offset
-    pub value-length : get_or (key_values b T) r 0 / 256 ≡ bucket_length b T (r / b)
-    value-length = rw (key_value_is r h) (omega (arith, row-offset))
+    pub value_length : get_or (key_values b T) r 0 / 256 ≡ bucket_length b T (r / b)
+    value_length = rw (key_value_is r h) (omega (arith, row_offset))
 
     pub value_offset : get_or (key_values b T) r 0 % 256 ≡ r % b
-    value_offset = rw (key_value_is r h) (omega (arith, row-offset))
+    value_offset = rw (key_value_is r h) (omega (arith, row_offset))
 
     -- it fits 16 bits
-    pub key-value-small : 256 * bucket_length b T (r / b) + r % b < 65536
-    key-value-small = omega (arith, row-offset, bits_small)
+    pub key_value_small : 256 * bucket_length b T (r / b) + r % b < 65536
+    key_value_small = omega (arith, row_offset, bits_small)
 
     -- the first bits of a key, as many as its bucket's length, are its bucket's item in map 2
-    pub row-prefix : prefix_item (key_at T r) (bucket_length b T (r / b)) ≡ get_or (prefix_items b T) (r / b) 0
-    row-prefix =
-        rw (prefix_is (r / b) row-bucket)
-        (prefix_same T s.table b (r / b) (omega arith) row-bucket r row_low row-high)
+    pub row_prefix : prefix_item (key_at T r) (bucket_length b T (r / b)) ≡ get_or (prefix_items b T) (r / b) 0
+    row_prefix =
+        rw (prefix_is (r / b) row_bucket)
+        (prefix_same T s.table b (r / b) (omega arith) row_bucket r row_low row_high)

@@ -1,18 +1,18 @@
 -- Jams and peeling.
---     jam-two                 a jam has two items at least
---     one-item-never-jams     document 01's remark, of no items too
---     jam-is-never-once       a jam is a nonempty set that touches no cell just once, as the demands say it
---     jamless-not-jammed      no jam and a jam exclude each other
---     one-largest             two largest jams are one set
---     largest-one-size        and have one size
+--     jam_two                 a jam has two items at least
+--     one_item_never_jams     document 01's remark, of no items too
+--     jam_is_never_once       a jam is a nonempty set that touches no cell just once, as the demands say it
+--     jamless_not_jammed      no jam and a jam exclude each other
+--     one_largest             two largest jams are one set
+--     largest_one_size        and have one size
 --     or_cases                one of two tests passes
---     any-cell, some-cell     a test passes at one of an item's cells
+--     any_cell_of, some_cell     a test passes at one of an item's cells
 --     touches, touched        an item touches a cell, and the test says so
 --     alone_at         a cell that one of a set touches: the xor there is its number
---     closed-jam       a set that is not empty, and of which no cell is touched by exactly one, is a jam
---     jam-has-none-peeled     who is in a jam was not peeled
---     all-peeled       all are peeled: there is no jam
---     rest-largest     not all are, and no cell is touched by exactly one of those left: they are the largest jam
+--     closed_jam       a set that is not empty, and of which no cell is touched by exactly one, is a jam
+--     jam_has_none_peeled     who is in a jam was not peeled
+--     all_peeled       all are peeled: there is no jam
+--     rest_largest     not all are, and no cell is touched by exactly one of those left: they are the largest jam
 -- Assumes nothing.
 use mathlib.Core.Path.{◌≡◌, refl, sym, ap, ap₂, ◌∙◌}
 use mathlib.Core.Bool.{Bool, true, false, ◌&&◌, ◌||◌, not, or-true}

@@ -1,11 +1,11 @@
 -- The largest jam.
---     jams-together       two jams together are a jam
---     largest-there       items that hold a jam hold a largest one
---     largest-is-there    so do a list's items, with its size
---     size-of-largest     its size: two items at least, all of them at most, and no jam has more
---     largest-some        so it is not 0
---     largest-jammed      items that hold a largest jam hold a jam
---     largest-not-jamless     and do not hold none
+--     jams_together       two jams together are a jam
+--     largest_there       items that hold a jam hold a largest one
+--     largest_is_there    so do a list's items, with its size
+--     size_of_largest     its size: two items at least, all of them at most, and no jam has more
+--     largest_some        so it is not 0
+--     largest_jammed      items that hold a largest jam hold a jam
+--     largest_not_jamless     and do not hold none
 -- The largest is found by thinning: from all items, whoever is alone at a cell is taken out, until no cell is touched
 -- just once. Who is taken out is in no jam, so what is left holds every jam, and is a jam itself where there is one.
 -- Assumes nothing.

@@ -55,8 +55,8 @@ module _ (e : ℕ → ℕ → ℕ) (t : ℕ) (st at : ℕ → ℕ) where
     left_here : (p : ℕ) → p < t → (live st p (st p) ≡ true) × (touchb e (st p) (at p) ≡ true)
     left_here p l = both (live st p (st p)) (touchb e (st p) (at p)) (rest p l).0
 
-    pub order-test : Peeling e t st at t
-    order-test =
+    pub order_test : Peeling e t st at t
+    order_test =
         record {
           small = λ p l. ltb-true (st p) t (turn p l).0;
           fresh = λ p l. (left_here p l).0;

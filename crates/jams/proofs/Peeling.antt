@@ -1,13 +1,13 @@
 -- An item gets its turn, and is taken out when it comes.
 --     one_left       a cell with one item left: the xor there is its number
---     turn-marked    an item that has its turn is marked
---     can-try        a cell can be tried
---     tried-turn     the item left at a cell gets its turn: its mark is set, and it is stored at the end of the queue
---     tried-none     no item gets one
---     turn-counted   the item whose turn it is is counted at each of its cells
---     taken, taken-seen    it is taken out, and the cells that it does not touch are as they were
---     start-peeled   all items counted: none has a turn
---     stuck-largest  all turns taken and not all items peeled: those left are the largest jam
+--     turn_marked    an item that has its turn is marked
+--     can_try        a cell can be tried
+--     tried_turn     the item left at a cell gets its turn: its mark is set, and it is stored at the end of the queue
+--     tried_none     no item gets one
+--     turn_counted   the item whose turn it is is counted at each of its cells
+--     taken, taken_seen    it is taken out, and the cells that it does not touch are as they were
+--     start_peeled   all items counted: none has a turn
+--     stuck_largest  all turns taken and not all items peeled: those left are the largest jam
 --     at_most        at most all have their turns
 -- Assumes nothing.
 use mathlib.Core.Path.{◌≡◌, refl, sym, ap, ap₂, ◌∙◌, subst, fun_ext}
@@ -160,13 +160,13 @@ module _ {cap t n : ℕ} {w : List ℕ} (c : ℕ) (T : Tryable cap t w n c) (d :
     fresh : live Items n I ≡ true
     fresh = unmarked I P I-below u
 
-    cell-kept : (p : ℕ) → p < n → Cells' p ≡ Cells p
-    cell-kept p m =
+    cell_kept : (p : ℕ) → p < n → Cells' p ≡ Cells p
+    cell_kept p m =
         ap (λ (i : ℕ). mark cap Given i - 1) (item_kept p m)
         ∙ ap (λ (k : ℕ). k - 1) (mark_kept (Items p) (P.order.small p m) (live_not Items n I fresh p m))
 
-    cell-top : Cells' n ≡ c
-    cell-top = rw item_top (omega (arith, mark_top))
+    cell_top : Cells' n ≡ c
+    cell_top = rw item_top (omega (arith, mark_top))
 
     live_below : (p j : ℕ) → p ≤ n → live Items' p j ≡ live Items p j
     live_below p j m = live_ext Items' Items p j (λ r k. item_kept r (omega arith))
@@ -179,8 +179,8 @@ module _ {cap t n : ℕ} {w : List ℕ} (c : ℕ) (T : Tryable cap t w n c) (d :
         → (p : ℕ) → p < suc n → F p (Items' p) (Cells' p)
     each F below here p m =
         ⊎_elim
-        (λ (z : p ≡ n). rw (z, cell-top, item_top) here)
-        (λ (z : p < n). rw (cell-kept p z, item_kept p z) (below p z))
+        (λ (z : p ≡ n). rw (z, cell_top, item_top) here)
+        (λ (z : p < n). rw (cell_kept p z, item_kept p z) (below p z))
         (last_or_below m)
 
     order' : Peeling e t Items' Cells' (suc n)
@@ -265,24 +265,24 @@ module _ {e : ℕ → ℕ → ℕ} {t cap q n : ℕ} {w : List ℕ} (P : Peeled 
 
   -- is taken out
   module _ {w' : List ℕ} (R : Put e cap Now w' w) where
-    mark-same : (i : ℕ) → mark cap w' i ≡ mark cap w i
-    mark-same i = sym (R.rest (cap + cap + i) (omega arith))
+    mark_same : (i : ℕ) → mark cap w' i ≡ mark cap w i
+    mark_same i = sym (R.rest (cap + cap + i) (omega arith))
 
-    items-same : turn_item cap t w' ≡ turn_item cap t w
-    items-same = fun_ext (λ p. sym (R.rest (cap + cap + t + p) (omega arith)))
+    items_same : turn_item cap t w' ≡ turn_item cap t w
+    items_same = fun_ext (λ p. sym (R.rest (cap + cap + t + p) (omega arith)))
 
     cells_same : turn_cell cap t w' ≡ turn_cell cap t w
     cells_same =
         fun_ext
         (λ p.
-        ap (λ (k : ℕ). k - 1) (mark-same (turn_item cap t w' p) ∙ ap (λ (st : ℕ → ℕ). mark cap w (st p)) items-same))
+        ap (λ (k : ℕ). k - 1) (mark_same (turn_item cap t w' p) ∙ ap (λ (st : ℕ → ℕ). mark cap w (st p)) items_same))
 
     gone_at : (k : ℕ)
         → Without (still e (turn_item cap t w) q k) (still e (turn_item cap t w) (suc q) k) Now (touchb e Now k)
     gone_at k = still_without (turn_item cap t w) (turn_item cap t w) q Now (λ p m. refl) refl e k now_left
 
-    holds-less : CellsHold t cap (still e (turn_item cap t w) (suc q)) w'
-    holds-less =
+    holds_less : CellsHold t cap (still e (turn_item cap t w) (suc q)) w'
+    holds_less =
         let s = still e (turn_item cap t w) q in
         let s' = still e (turn_item cap t w) (suc q) in
         record {
@@ -298,20 +298,20 @@ module _ {e : ℕ → ℕ → ℕ} {t cap q n : ℕ} {w : List ℕ} (P : Peeled 
     pub taken : Peeled e t cap w' (q + 1) n
     taken =
         rw add-one (record {
-          order = rw (cells_same, items-same) P.order;
-          holds = rw items-same holds-less;
-          marks = λ i m. ap (λ (k : ℕ). eqb k 0) (mark-same i) ∙ rw items-same (P.marks i m);
+          order = rw (cells_same, items_same) P.order;
+          holds = rw items_same holds_less;
+          marks = λ i m. ap (λ (k : ℕ). eqb k 0) (mark_same i) ∙ rw items_same (P.marks i m);
           behind = l;
         })
 
-    pub taken-seen : (k : ℕ) → k < cap → (Touches e Now k → ⊥) → Seen cap w k → Seen cap w' k
-    taken-seen k m h s d u =
+    pub taken_seen : (k : ℕ) → k < cap → (Touches e Now k → ⊥) → Seen cap w k → Seen cap w' k
+    taken_seen k m h s d u =
         let x = get_or w' (cap + k) 0 in
         ⊎_elim
         (λ (b : touchb e Now k ≡ true). h (touched e Now k b))
         (λ (b : touchb e Now k ≡ false).
         let same : get_or w (cap + k) 0 ≡ x = R.xor k m ∙ rw b refl in
-        s (R.count k m ∙ rw b d) (ap (mark cap w) same ∙ sym (mark-same x) ∙ u))
+        s (R.count k m ∙ rw b d) (ap (mark cap w) same ∙ sym (mark_same x) ∙ u))
         (true_or_false (touchb e Now k))
 
 all_left : (t : ℕ) → size_of (λ i. true) t ≡ t

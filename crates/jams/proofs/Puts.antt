@@ -1,8 +1,8 @@
 -- An item put in at one cell, and at its three cells.
---     spread, touch-below     the three cells of a hash rise, one in each segment of the map
---     put-at, take_at         the two stores that put an item in at a cell, and that take it out
+--     spread, touch_below     the three cells of a hash rise, one in each segment of the map
+--     put_at, take_at         the two stores that put an item in at a cell, and that take it out
 --     Step, asked, step_kept  what a store at a cell asks for, while other cells change
---     other-kept              another cell keeps its count
+--     other_kept              another cell keeps its count
 --     puts                    put in at three cells that rise is put in at each
 -- Assumes nothing.
 use mathlib.Core.Path.{◌≡◌, refl, sym, ap, ◌∙◌}

@@ -1,13 +1,13 @@
 -- Sets of numbers below t, given by a test: their size, and the xor of their numbers.
---     size-ext, xor-ext       two tests that agree below t
---     size-zero, xor-zero     an empty set: the test fails below t, and the xor is 0
---     size-some               a set that is not empty has a number
---     size-within             a set within another has no more numbers
---     size_less, xor-less     one number taken out
---     size-without            one that is in the set: one less
---     size-one                a set of one: the xor is its number
---     size-two                a set with two numbers that differ has two at least
---     size-other              a set that is not of one has another number beside the one at hand
+--     size_ext, xor_ext       two tests that agree below t
+--     size_zero, xor_zero     an empty set: the test fails below t, and the xor is 0
+--     size_some               a set that is not empty has a number
+--     size_within             a set within another has no more numbers
+--     size_less, xor_less     one number taken out
+--     size_without            one that is in the set: one less
+--     size_one                a set of one: the xor is its number
+--     size_two                a set with two numbers that differ has two at least
+--     size_other              a set that is not of one has another number beside the one at hand
 -- Assumes nothing.
 use mathlib.Core.Path.{◌≡◌, refl, sym, ap, ap₂, ◌∙◌}
 use mathlib.Core.Bool.{Bool, true, false, ◌&&◌, not, and-true, and-false, and-eq-true_iff}
@@ -41,11 +41,11 @@ xor_ext p q (suc t) h =
 pub size_le : (p : ℕ → Bool) (t : ℕ) → size_of p t ≤ t
 unfolding size_of
 size_le p zero = omega arith
-size_le p (suc t) = more-le (p t) (size_le p t)
+size_le p (suc t) = more_le (p t) (size_le p t)
   where
-    more-le : (b : Bool) {n t : ℕ} → n ≤ t → more_if b n ≤ suc t
-    more-le true l = omega arith
-    more-le false l = omega arith
+    more_le : (b : Bool) {n t : ℕ} → n ≤ t → more_if b n ≤ suc t
+    more_le true l = omega arith
+    more_le false l = omega arith
 
 more_zero : (b : Bool) (n : ℕ) → more_if b n ≡ 0 → (b ≡ false) × (n ≡ 0)
 more_zero true n e = absurd (omega arith)

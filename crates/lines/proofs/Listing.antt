@@ -102,51 +102,51 @@ module _ (most : ℕ) (line : ℕ → List ℕ) (s : List ℕ) (i : ℕ) where
             g z wz.0 (texts line zs ++ rest)
             (has_within s i at (texts line xs) l.stand, d ∙ append_assoc (line z) (texts line zs) rest)
 
-    pub lined-more : (v next : ℕ) → Lined most line k s i (At at) → Reads most line s at (Value v next)
+    pub lined_more : (v next : ℕ) → Lined most line k s i (At at) → Reads most line s at (Value v next)
         → Lined most line (k + 1) s i (At next)
     unfolding Lined
-    lined-more v next l g = (l.0 ++ (v ∷ []), one_more v next l.0 l.1 g)
+    lined_more v next l g = (l.0 ++ (v ∷ []), one_more v next l.0 l.1 g)
 
-    pub lined-bad : (n : ℕ) → Unique most line → k < n → Lined most line k s i (At at)
+    pub lined_bad : (n : ℕ) → Unique most line → k < n → Lined most line k s i (At at)
         → Reads most line s at Bad
         → Lined most line n s i Off
     unfolding Lined
-    lined-bad n u h l g = none_more n l.0 u h l.1 g
+    lined_bad n u h l g = none_more n l.0 u h l.1 g
 
     -- ---- the same, with the numbers put into `out`, which then is `after`
     module _ (out after : List ℕ) where
-      pub loads-length : Loads most line k s i out after (At at) → length after ≡ length out
+      pub loads_length : Loads most line k s i out after (At at) → length after ≡ length out
       unfolding Loads
-      loads-length l =
+      loads_length l =
           let a = length-append l.1.0 (drop k out) in
           let b = length-drop k out in
           let c = l.1.1.count in
           let d = l.0 in
           ap length l.1.2 ∙ omega arith
 
-      pub loads-more : (v next : ℕ) → k < length out → Loads most line k s i out after (At at)
+      pub loads_more : (v next : ℕ) → k < length out → Loads most line k s i out after (At at)
           → Reads most line s at (Value v next)
           → Loads most line (k + 1) s i out (set after k v) (At next)
       unfolding Loads
-      loads-more v next room l g =
+      loads_more v next room l g =
           let xs = l.1.0 in
           let e : set after k v ≡ xs ++ (v ∷ drop (suc k) out) =
           ap (λ (x : List ℕ). set x k v) (l.1.2 ∙ ap (λ (x : List ℕ). xs ++ x) (drop-cons out k 0 room))
           ∙ set_at xs (get_or out k 0) (drop (suc k) out) v k l.1.1.count in
           (omega arith, (xs ++ (v ∷ []), one_more v next xs l.1.1 g, e ∙ rw (add-one, append_assoc)))
 
-      pub loads-bad : (n : ℕ) → Unique most line → k < n → n ≤ length out
+      pub loads_bad : (n : ℕ) → Unique most line → k < n → n ≤ length out
           → Loads most line k s i out after (At at)
           → Reads most line s at Bad → Loads most line n s i out after Off
       unfolding Loads
-      loads-bad n u h room l g =
+      loads_bad n u h room l g =
           let no = none_more n l.1.0 u h l.1.1 g in
           let e : k + (n - k) ≡ n = omega arith in
           let d : drop k after ≡ drop k out =
           ap (drop k) l.1.2 ∙ drop_at l.1.0 (drop k out) k l.1.1.count in
           let same : drop n after ≡ drop n out =
           rw e at (sym (drop-drop (n - k) k after) ∙ ap (drop (n - k)) d ∙ drop-drop (n - k) k out) in
-          (λ room. no, loads-length l, same, λ small. absurd (omega arith))
+          (λ room. no, loads_length l, same, λ small. absurd (omega arith))
 
 module _ (most : ℕ) (line : ℕ → List ℕ) (s : List ℕ) (i : ℕ) (out : List ℕ) where
   pub loads_start : i ≤ length s → Loads most line 0 s i out out (At i)

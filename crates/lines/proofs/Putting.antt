@@ -46,12 +46,12 @@ module _ (line : ℕ → List ℕ) (xs : List ℕ) where
 
   module _ (room left k w : ℕ) (h : k < length xs) (e : left + length (texts line (take k xs)) ≡ room)
       (n : w ≡ length (line (get_or xs k 0))) where
-    pub room-off : left < w → Leaves (texts line xs) room Off
+    pub room_off : left < w → Leaves (texts line xs) room Off
     unfolding Leaves
-    room-off l = let a = texts_grow k h in let b = texts_part (k + 1) in omega arith
+    room_off l = let a = texts_grow k h in let b = texts_part (k + 1) in omega arith
 
-    pub room-more : w ≤ left → left - w + length (texts line (take (k + 1) xs)) ≡ room
-    room-more l = let a = texts_grow k h in omega arith
+    pub room_more : w ≤ left → left - w + length (texts line (take (k + 1) xs)) ≡ room
+    room_more l = let a = texts_grow k h in omega arith
 
   pub room_end : (room left k : ℕ) → k ≡ length xs → left + length (texts line (take k xs)) ≡ room
       → Leaves (texts line xs) room (At left)
@@ -61,26 +61,26 @@ module _ (line : ℕ → List ℕ) (xs : List ℕ) where
   -- ---- k lines put
 
   module _ (out : List ℕ) (i : ℕ) where
-    pub put-short : i ≤ length out → Leaves (texts line xs) (length out - i) Off
+    pub put_short : i ≤ length out → Leaves (texts line xs) (length out - i) Off
         → length out < i + length (texts line xs)
     unfolding Leaves
-    put-short h l = omega arith
+    put_short h l = omega arith
 
-    pub put-room : (left : ℕ) → i ≤ length out → Leaves (texts line xs) (length out - i) (At left)
+    pub put_room : (left : ℕ) → i ≤ length out → Leaves (texts line xs) (length out - i) (At left)
         → i + length (texts line xs) ≤ length out
     unfolding Leaves
-    put-room left h l = omega arith
+    put_room left h l = omega arith
 
-    pub put-start : i ≤ length out → Writes (texts line (take 0 xs)) out i out (At i)
+    pub put_start : i ≤ length out → Writes (texts line (take 0 xs)) out i out (At i)
     unfolding texts
-    put-start h = writes_at [] out out i i (omega arith) h (sym (placed_none out i))
+    put_start h = writes_at [] out out i i (omega arith) h (sym (placed_none out i))
 
-    pub put-more : (k at next : ℕ) (mid after : List ℕ) (r : Next) → i + length (texts line xs) ≤ length out
+    pub put_more : (k at next : ℕ) (mid after : List ℕ) (r : Next) → i + length (texts line xs) ≤ length out
         → k < length xs
         → Writes (texts line (take k xs)) out i mid (At at)
         → Writes (line (get_or xs k 0)) mid at after r → next ≡ next_or r at
         → Writes (texts line (take (k + 1) xs)) out i after (At next)
-    put-more k at next mid after r room h w g e =
+    put_more k at next mid after r room h w g e =
         let a = texts_part (k + 1) in
         let b = texts_grow k h in
         let m = writes_length (texts line (take k xs)) out mid i (At at) w in
@@ -91,7 +91,7 @@ module _ (line : ℕ → List ℕ) (xs : List ℕ) where
         rw (texts_more k h) (writes_then (texts line (take k xs)) out mid i at w (line (get_or xs k 0)) after (At next)
         (omega arith) put)
 
-    pub put-end : (k at : ℕ) (after : List ℕ) → k ≡ length xs
+    pub put_end : (k at : ℕ) (after : List ℕ) → k ≡ length xs
         → Writes (texts line (take k xs)) out i after (At at)
         → Writes (texts line xs) out i after (At at)
-    put-end k at after e w = subst (λ (l : List ℕ). Writes (texts line l) out i after (At at)) (all_taken k e) w
+    put_end k at after e w = subst (λ (l : List ℕ). Writes (texts line l) out i after (At at)) (all_taken k e) w

@@ -37,17 +37,17 @@ module _ (seed : ℕ) (items values : List ℕ) where
 
   -- cells and work are a and u before and b and v after; w is the work when no more can be peeled
   module _ {a b u w v : List ℕ} {n : ℕ} (P : Peeled e t (cell_count t) w n n) (sw : v ≡ cleared (work_count t) u) where
-    built-filled : n ≡ t → Filled seed items values a b → Built seed items values a u (t - n) b v
-    built-filled q F =
+    built_filled : n ≡ t → Filled seed items values a b → Built seed items values a u (t - n) b v
+    built_filled q F =
         record {
           accepted = λ o. (all_peeled e t (turn_item (cell_count t) t w) (turn_cell (cell_count t) t w) n P.order q, F);
           refused = λ o. absurd (omega arith);
           swept = sw;
         }
 
-    built-jammed : Segment (segment t) → (n ≡ t → ⊥) → AllSeen (cell_count t) w → b ≡ cleared (cell_count t) a
+    built_jammed : Segment (segment t) → (n ≡ t → ⊥) → AllSeen (cell_count t) w → b ≡ cleared (cell_count t) a
         → Built seed items values a u (t - n) b v
-    built-jammed S q seen same =
+    built_jammed S q seen same =
         let left : size_of (live (turn_item (cell_count t) t w) n) t + n ≡ t = P.order.left in
         record {
           accepted = λ o. absurd (q (omega arith));
@@ -114,13 +114,13 @@ built {map} {keys} {a = a} {a₁} {b} {u} {w} {v} {n} seed es z l O lw y E =
     let C = cell_count (length items) in
     let F : FilledAll map keys a₁ b = h.1 in
     let B : Beyond (cell_count (length items)) a₁ b = rw (em, et) at F.beyond in
-    built-filled seed items values P sw (rw et at h.0) (record {
+    built_filled seed items values P sw (rw et at h.0) (record {
       valued = rw (es, em, et) at F.valued;
       untouched = rw (es, em, et) at F.clean;
       beyond = drop_same (cell_count (length items)) a₁ b E.long B ∙ rw z' (drop_cleared C C a (le_refl C));
       long = E.long ∙ l;
     }))
     (λ h.
-    built-jammed seed items values P sw (rw (em, et) at O.turn.ready.fits) (rw et at h.0)
+    built_jammed seed items values P sw (rw (em, et) at O.turn.ready.fits) (rw et at h.0)
     (rw (em, et) at O.seen) (h.1 ∙ z'))
     E.how)

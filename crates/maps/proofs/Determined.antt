@@ -1,7 +1,7 @@
 -- What a build of one map determines.
---     cells-beyond      past C(t) it keeps the cells
---     fillings-alike    two fillings of the same items with the same values are alike
---     map-determined    two outcomes of a build on the same input are the same, up to the filling
+--     cells_beyond      past C(t) it keeps the cells
+--     fillings_alike    two fillings of the same items with the same values are alike
+--     map_determined    two outcomes of a build on the same input are the same, up to the filling
 -- Assumes nothing.
 use mathlib.Core.Path.{◌≡◌, sym, ap, ◌∙◌}
 use mathlib.Core.List.{List}

@@ -67,17 +67,17 @@ module _ {T : List ℕ} {seed : ℕ} {handles left right work lengths : List ℕ
 
   -- whatever it answers, past the named lengths of k keys the stores are as they were
   module _ {k : ℕ} (is : length T ≡ k) where
-    pub handles-beyond : drop (handle_cells k) handles' ≡ drop (handle_cells k) handles
-    handles-beyond = rw (← is) (rw (length_handles T) at (cells_beyond seed (handle_items T) B.map₃))
+    pub handles_beyond : drop (handle_cells k) handles' ≡ drop (handle_cells k) handles
+    handles_beyond = rw (← is) (rw (length_handles T) at (cells_beyond seed (handle_items T) B.map₃))
 
-    pub left-beyond : drop k left' ≡ drop k left
-    left-beyond = rw (← is) (ap (drop (length T)) B.lefts ∙ written_beyond (length T) (left_entry T) left)
+    pub left_beyond : drop k left' ≡ drop k left
+    left_beyond = rw (← is) (ap (drop (length T)) B.lefts ∙ written_beyond (length T) (left_entry T) left)
 
-    pub right-beyond : drop k right' ≡ drop k right
-    right-beyond = rw (← is) (ap (drop (length T)) B.rights ∙ written_beyond (length T) (right_entry T) right)
+    pub right_beyond : drop k right' ≡ drop k right
+    right_beyond = rw (← is) (ap (drop (length T)) B.rights ∙ written_beyond (length T) (right_entry T) right)
 
-    pub lengths-beyond : drop k lengths' ≡ drop k lengths
-    lengths-beyond = rw (← is) (ap (drop (length T)) B.lens ∙ written_beyond (length T) (length_entry T) lengths)
+    pub lengths_beyond : drop k lengths' ≡ drop k lengths
+    lengths_beyond = rw (← is) (ap (drop (length T)) B.lens ∙ written_beyond (length T) (length_entry T) lengths)
 
 -- where there is no jam the neighbour index is there
 pub stores_filled : {T : List ℕ} {seed : ℕ} {S : Stores} (S' : Stores) {work work' : List ℕ} {size : ℕ}

@@ -1,8 +1,8 @@
 -- Cells tried one after another, until each item that is left alone at a cell has its turn.
---     first-turn, next-turn    the state of the work between two turns
---     try-at                   a cell of the map can be tried
+--     first_turn, next_turn    the state of the work between two turns
+--     try_at                   a cell of the map can be tried
 --     seen_next                the cells below c tried, and one more
---     seen-three               the three cells of the item taken out tried
+--     seen_three               the three cells of the item taken out tried
 -- Assumes nothing.
 use mathlib.Core.Path.{◌≡◌, ◌∙◌, subst}
 use mathlib.Core.List.{List}

@@ -27,15 +27,15 @@ module _ (T : List ℕ) (x lower a m b : ℕ) where
 
   module _ (h : a < m) (g : m < b) (l : b ≤ length T) where
     -- bit `lower` of x is 0: x is compared with key a
-    pub decide-zero : bit_at lower x ≡ 0 → Compared x (key_at T a) a m (decide T x lower a m b)
+    pub decide_zero : bit_at lower x ≡ 0 → Compared x (key_at T a) a m (decide T x lower a m b)
     unfolding decide
-    decide-zero e =
+    decide_zero e =
         record { is = rw (lt-ltb a m h, lt-ltb m b g, le-leb b (length T) l, eq-eqb (bit_at lower x) 0 e) }
 
     -- it is 1: with key m
-    pub decide-one : (bit_at lower x ≡ 0 → ⊥) → Compared x (key_at T m) m b (decide T x lower a m b)
+    pub decide_one : (bit_at lower x ≡ 0 → ⊥) → Compared x (key_at T m) m b (decide T x lower a m b)
     unfolding decide
-    decide-one e =
+    decide_one e =
         record { is = rw (lt-ltb a m h, lt-ltb m b g, le-leb b (length T) l, ne_eqb (bit_at lower x) 0 e) }
 
 -- what is said after the comparison

@@ -13,7 +13,7 @@ use Rattle.tables.specs.Lengths.{handle_count}
 use Rattle.walks.specs.Walk.{agrees, descend, before, spoiled, Walk, decide, walk, stored_length, store_walk}
 use Rattle.places.specs.Said.{NeighbourSaid, place, refused, told, walk_says}
 use Rattle.places.specs.declared.Place.{Place}
-use Rattle.walks.proofs.Answering.{walk_none, walk_one, walk-off, walk-on, walk-bad, halt}
+use Rattle.walks.proofs.Answering.{walk_none, walk_one, walk_off, walk_on, walk_bad, halt}
 
 -- two places of which the same is said are the same
 pub same_place : (p q : Place) → p.before ≡ q.before → p.probes ≡ q.probes → p.stands ≡ q.stands → p ≡ q
@@ -62,25 +62,25 @@ module _ (T handles lefts rights lengths : List ℕ) (seed x : ℕ) where
   says_one_high e h = from (halt 0 (before 1)) (walk_one T x look ls rs lens e ∙ (rw (lt-leb x (key_at T 0) h)))
 
   module _ (two : 2 ≤ length T) (r : ℕ) (e : r ≡ get_or lefts 0 0) where
-    pub says-bad : ((0 < r) × (r < length T) × (lens r ≤ 63) → ⊥) → refused 6 0 ≡ says
+    pub says_bad : ((0 < r) × (r < length T) × (lens r ≤ 63) → ⊥) → refused 6 0 ≡ says
     unfolding told
-    says-bad fails = from (halt r spoiled) (walk-bad T x look ls rs lens two r (sym e) fails)
+    says_bad fails = from (halt r spoiled) (walk_bad T x look ls rs lens two r (sym e) fails)
 
     -- a root split, and what was read as its length
     module _ (ok : (0 < r) × (r < length T) × (lens r ≤ 63)) (l : ℕ) (is : l ≡ lens r) where
-      pub says-low : agrees T x r l ≡ false → x ≤ key_at T r → told T x 0 (before 0) ≡ says
-      says-low off h =
+      pub says_low : agrees T x r l ≡ false → x ≤ key_at T r → told T x 0 (before 0) ≡ says
+      says_low off h =
           from (halt r (before 0))
-          (walk-off T x look ls rs lens two r (sym e) ok (rw is at off) ∙ (rw (le-leb x (key_at T r) h)))
+          (walk_off T x look ls rs lens two r (sym e) ok (rw is at off) ∙ (rw (le-leb x (key_at T r) h)))
 
-      pub says-high : agrees T x r l ≡ false → key_at T r < x → (c : ℕ) → c ≡ length T → told T x 0 (before c) ≡ says
-      says-high off h c all =
+      pub says_high : agrees T x r l ≡ false → key_at T r < x → (c : ℕ) → c ≡ length T → told T x 0 (before c) ≡ says
+      says_high off h c all =
           rw all (from (halt r (before (length T)))
-          (walk-off T x look ls rs lens two r (sym e) ok (rw is at off) ∙ (rw (lt-leb x (key_at T r) h))))
+          (walk_off T x look ls rs lens two r (sym e) ok (rw is at off) ∙ (rw (lt-leb x (key_at T r) h))))
 
-      pub says-walk : agrees T x r l ≡ true → (node lower probes a b : ℕ)
+      pub says_walk : agrees T x r l ≡ true → (node lower probes a b : ℕ)
           → node ≡ (descend T lens x look 64 r 64).node
           → probes ≡ length (descend T lens x look 64 r 64).probed → lower ≡ lens node
           → a ≡ get_or lefts node 0 → b ≡ get_or rights node 0 → told T x probes (decide T x lower a node b) ≡ says
-      says-walk on node lower probes a b n p l' u v =
-          rw (l', u, v, p, n) (from _ (walk-on T x look ls rs lens two r (sym e) ok (rw is at on)))
+      says_walk on node lower probes a b n p l' u v =
+          rw (l', u, v, p, n) (from _ (walk_on T x look ls rs lens two r (sym e) ok (rw is at on)))

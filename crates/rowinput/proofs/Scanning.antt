@@ -41,18 +41,18 @@ module _ (most : ℕ) (head tag s : List ℕ) (i : ℕ) (out after : List ℕ) w
       hasnt_first s i (line Decimal head (length xs)) (lines Hex tag xs) (h (length xs) (omega arith))
 
   module _ (n at : ℕ) (h : Reads most (line Decimal head) s i (Value n at)) where
-    pub list-short : Loads most_word (line Hex tag) n s at out after Off → LoadsList most head tag s i out after None
+    pub list_short : Loads most_word (line Hex tag) n s at out after Off → LoadsList most head tag s i out after None
     unfolding LoadsList Loads
-    list-short g xs l w rest f =
+    list_short g xs l w rest f =
         let p = read_same most (line Decimal head) (decimal_line_unique head most) s i n at h (length xs)
         (lines Hex tag xs ++ rest)
         (omega arith) (from_first s i (line Decimal head (length xs)) (lines Hex tag xs) rest f) in
         g.0 (let e = p.0 in omega arith) xs (sym p.0) w rest p.1
 
-    pub list-whole : (end : ℕ) → Loads most_word (line Hex tag) n s at out after (At end)
+    pub list_whole : (end : ℕ) → Loads most_word (line Hex tag) n s at out after (At end)
         → LoadsList most head tag s i out after (Lines n end)
     unfolding LoadsList Loads Reads
-    list-whole end g =
+    list_whole end g =
         let xs = g.1.0 in
         let l = g.1.1 in
         record {
@@ -96,31 +96,31 @@ module _ (K A : ℕ) (s : List ℕ) where
   no_bucket h b ks qs f t = h b f.bucket (key_list ks ++ (ask_list qs ++ [])) (from_start b ks qs t)
 
   module _ (bucket a : ℕ) (h : Reads 65535 (line Decimal (bytes "bucket=")) s 0 (Value bucket a)) where
-    from-keys : (b : ℕ) (ks qs : List ℕ) → Fine K A b ks qs → s ≡ row_text b ks qs
+    from_keys : (b : ℕ) (ks qs : List ℕ) → Fine K A b ks qs → s ≡ row_text b ks qs
         → From s a (key_list ks ++ (ask_list qs ++ []))
-    from-keys b ks qs f t =
+    from_keys b ks qs f t =
         let rest = key_list ks ++ (ask_list qs ++ []) in
         (read_same 65535 bucket_line (decimal_line_unique (bytes "bucket=") 65535) s 0 bucket a h b rest f.bucket
         (from_start b ks qs t)).1
 
     pub no_keys : NoList K (bytes "keys=") (bytes "key=") s a → NoInput K A s
-    no_keys l b ks qs f t = l ks f.key_count f.key_words (ask_list qs ++ []) (from-keys b ks qs f t)
+    no_keys l b ks qs f t = l ks f.key_count f.key_words (ask_list qs ++ []) (from_keys b ks qs f t)
 
     module _ (keys keys' : List ℕ) (n e : ℕ)
         (l : ListAt 2048 (bytes "keys=") (bytes "key=") s a keys keys' n e) where
-      from-asks : (b : ℕ) (ks qs : List ℕ) → Fine K A b ks qs → s ≡ row_text b ks qs
+      from_asks : (b : ℕ) (ks qs : List ℕ) → Fine K A b ks qs → s ≡ row_text b ks qs
           → From s e (ask_list qs ++ [])
-      from-asks b ks qs f t = list_same l ks (ask_list qs ++ []) f.key_words (from-keys b ks qs f t)
+      from_asks b ks qs f t = list_same l ks (ask_list qs ++ []) f.key_words (from_keys b ks qs f t)
 
-      pub no-asks : NoList A (bytes "asks=") (bytes "ask=") s e → NoInput K A s
-      no-asks g b ks qs f t = g qs f.ask_count f.ask_words [] (from-asks b ks qs f t)
+      pub no_asks : NoList A (bytes "asks=") (bytes "ask=") s e → NoInput K A s
+      no_asks g b ks qs f t = g qs f.ask_count f.ask_words [] (from_asks b ks qs f t)
 
       module _ (asks asks' : List ℕ) (m last : ℕ)
           (g : ListAt 512 (bytes "asks=") (bytes "ask=") s e asks asks' m last) where
         -- bytes after the end
         pub no_end : (last ≡ length s → ⊥) → NoInput K A s
         no_end h b ks qs f t =
-            let z = list_same g qs [] f.ask_words (from-asks b ks qs f t) in
+            let z = list_same g qs [] f.ask_words (from_asks b ks qs f t) in
             let d : length s - last ≡ 0 = sym (length-drop last s) ∙ ap length z.1 in
             let w = z.0 in
             h (omega arith)

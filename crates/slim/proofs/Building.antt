@@ -14,7 +14,7 @@ use Rattle.maps.specs.Built.{Room, Built}
 use Rattle.maps.proofs.Determined.{cells_beyond}
 use Rattle.neighbour.specs.Inner.{Storable, StoresBuilt}
 use Rattle.neighbour.proofs.Storing.{storable, swept_after, stores_filled}
-use Rattle.neighbour.proofs.Storing.{handles-beyond, left-beyond, right-beyond, lengths-beyond}
+use Rattle.neighbour.proofs.Storing.{handles_beyond, left_beyond, right_beyond, lengths_beyond}
 use Rattle.verdicts.specs.Inner.{Mapped}
 use Rattle.verdicts.specs.declared.Maps.TheVariants as maps
 use Rattle.verdicts.proofs.Clearing.{cleared_past, cells_written}
@@ -51,11 +51,11 @@ module _ {keys : List ℕ} {b : ℕ} {S : Stores} (R : SlimReady keys b S) where
 
   module _ {seed₁ : ℕ} {cells₁ work₁ : List ℕ} {size₁ : ℕ}
       (B₁ : Built seed₁ keys (offset_values b keys) S.cells S.work size₁ cells₁ work₁) where
-    pub first-jams : (seed₃ : ℕ) → 0 < size₁
+    pub first_jams : (seed₃ : ℕ) → 0 < size₁
         → MapsBuilt keys b seed₁ seed₃ S (maps.Jammed 1 size₁)
         (lent cells₁ S.handles S.left S.right work₁ S.lengths)
     unfolding Mapped
-    first-jams seed₃ h = (
+    first_jams seed₃ h = (
       in₁ (B₁.refused h).0,
       cells_written (slim_build_sizes n b) S (cells_beyond seed₁ keys B₁) B₁.swept,
     )
@@ -69,25 +69,25 @@ module _ {keys : List ℕ} {b : ℕ} {S : Stores} (R : SlimReady keys b S) where
       swept : work₃ ≡ cleared (call_work n) S.work
       swept = swept_after B₃ n S.work (omega (arith, counted, few_buckets)) B₁.swept
 
-      pub third-jams : 0 < size₃
+      pub third_jams : 0 < size₃
           → MapsBuilt keys b seed₁ seed₃ S (maps.Jammed 3 size₃) (lent cells₁ handles₃ left₃ right₃ work₃ lengths₃)
       unfolding Mapped
-      third-jams h = (
+      third_jams h = (
         in₃ (B₁.accepted (omega arith)).0 (B₃.map₃.refused h).0,
         record {
           cells = cells_beyond seed₁ keys B₁;
-          handles = handles-beyond B₃ counted;
-          left = left-beyond B₃ counted;
-          right = right-beyond B₃ counted;
+          handles = handles_beyond B₃ counted;
+          left = left_beyond B₃ counted;
+          right = right_beyond B₃ counted;
           work = cleared_past (call_work n) S.work swept;
-          lengths = lengths-beyond B₃ counted;
+          lengths = lengths_beyond B₃ counted;
         },
       )
 
-      pub both-built : size₃ ≤ 0
+      pub both_built : size₃ ≤ 0
           → MapsBuilt keys b seed₁ seed₃ S maps.Built (lent cells₁ handles₃ left₃ right₃ work₃ lengths₃)
       unfolding Mapped
-      both-built h =
+      both_built h =
           let A₁ = B₁.accepted (omega arith) in
           let S' = lent cells₁ handles₃ left₃ right₃ work₃ lengths₃ in (
             record { one = A₁.0; three = (B₃.map₃.accepted (omega arith)).0 },

@@ -16,46 +16,46 @@ use Rattle.words.proofs.Items.{item_inj}
 use Rattle.tables.specs.Tables.{key_at, Table}
 use Rattle.splits.specs.Splits.{len, left, right, root, parent_len, handle_len, handle_item, handle_split}
 use Rattle.basics.proofs.Bools.{by_test}
-use Rattle.splits.proofs.Rows.{share_down, between, len-lt, len-iff, neighbours, rows-own, left_lt, right-gt}
+use Rattle.splits.proofs.Rows.{share_down, between, len_lt, len_iff, neighbours, rows_own, left_lt, right_gt}
 use Rattle.splits.proofs.Rows.{one_split}
 use Rattle.splits.proofs.Parents.{parent_left, parent_right, parent_shorter, root_pos, root_lt}
 
 module _ (T : List ℕ) (t : Table T) where
   module _ (m : ℕ) (pos : 0 < m) (small : m < length T) (other : m ≡ root T → ⊥) where
-    pub handle-fattest : Fattest (parent_len T m) (len T m) (handle_len T m)
+    pub handle_fattest : Fattest (parent_len T m) (len T m) (handle_len T m)
     unfolding handle_len
-    handle-fattest =
-        let lt = len-lt T t m pos small in
+    handle_fattest =
+        let lt = len_lt T t m pos small in
         fattest_of_found (parent_len T m) (len T m) (parent_shorter T t m pos small other) (omega arith)
 
     -- only the split's rows have its handle
-    pub handle-rows : (i : ℕ) → i < length T
+    pub handle_rows : (i : ℕ) → i < length T
         → first_bits (handle_len T m) (key_at T i) ≡ first_bits (handle_len T m) (key_at T m)
         → (left T m ≤ i) × (i < right T m)
-    handle-rows i s e =
+    handle_rows i s e =
         let f = handle_len T m in
         let a = left T m in
         let b = right T m in
         let lt = left_lt T t m pos small in
-        let gt = right-gt T t m pos small in
-        let q : parent_len T m < f = handle-fattest.above in
-        let top : f ≤ 64 = omega (arith, handle-fattest.within, len-lt T t m pos small) in
+        let gt = right_gt T t m pos small in
+        let q : parent_len T m < f = handle_fattest.above in
+        let top : f ≤ 64 = omega (arith, handle_fattest.within, len_lt T t m pos small) in
         let no : ¬ (i < a) = λ g. (
         let h : 0 < a = omega arith in
         let one = between T t f i (a - 1) m (omega arith) (omega arith) small e in
         let two = between T t f i a m (omega arith) (omega arith) small e in
-        omega (arith, parent_left T m h, (len-iff T t a h (omega arith) f top).1 (one ∙ sym two))) in
+        omega (arith, parent_left T m h, (len_iff T t a h (omega arith) f top).1 (one ∙ sym two))) in
         let no' : ¬ (b ≤ i) = λ g. (
         let h : b < length T = omega arith in
         let one = between T t f m (b - 1) i (omega arith) (omega arith) s (sym e) in
         let two = between T t f m b i (omega arith) g s (sym e) in
-        omega (arith, parent_right T m h, (len-iff T t b (omega arith) h f top).1 (one ∙ sym two))) in
+        omega (arith, parent_right T m h, (len_iff T t b (omega arith) h f top).1 (one ∙ sym two))) in
         omega arith
 
     -- whatever is the 2-fattest number of the range gives the handle
-    pub handle-by : (f : ℕ) → Fattest (parent_len T m) (len T m) f → prefix_item (key_at T m) f ≡ handle_item T m
+    pub handle_by : (f : ℕ) → Fattest (parent_len T m) (len T m) f → prefix_item (key_at T m) f ≡ handle_item T m
     unfolding handle_item
-    handle-by f F = rw (fattest_one F handle-fattest)
+    handle_by f F = rw (fattest_one F handle_fattest)
 
   -- J8: the handles of two splits differ
   pub handle_inj : (m k : ℕ) → 0 < m → m < length T → (m ≡ root T → ⊥) → 0 < k → k < length T
@@ -64,12 +64,12 @@ module _ (T : List ℕ) (t : Table T) where
   handle_inj m k mp ms mo kp ks ko e =
       let f = handle_len T m in
       let g = handle_len T k in
-      let F = handle-fattest m mp ms mo in
-      let G = handle-fattest k kp ks ko in
+      let F = handle_fattest m mp ms mo in
+      let G = handle_fattest k kp ks ko in
       let fl : f ≤ len T m = F.within in
       let gl : g ≤ len T k = G.within in
-      let mt = len-lt T t m mp ms in
-      let kt = len-lt T t k kp ks in
+      let mt = len_lt T t m mp ms in
+      let kt = len_lt T t k kp ks in
       let r = item_inj (key_at T m) (key_at T k) f g (omega arith) (omega arith) e in
       let same : f ≡ g = r.0 in
       let fk : f ≤ len T k = omega arith in
@@ -79,12 +79,12 @@ module _ (T : List ℕ) (t : Table T) where
       share_down f (len T k) (key_at T (k - 1)) (key_at T k) fk (le_of_lt kt) (neighbours T t k kp ks) in
       let near' : first_bits g (key_at T (m - 1)) ≡ first_bits g (key_at T m) =
       share_down g (len T m) (key_at T (m - 1)) (key_at T m) (omega arith) (le_of_lt mt) (neighbours T t m mp ms) in
-      let k₁ = handle-rows m mp ms mo k ks bits in
-      let k₀ = handle-rows m mp ms mo (k - 1) (omega arith) (near ∙ bits) in
-      let m₁ = handle-rows k kp ks ko m ms bits' in
-      let m₀ = handle-rows k kp ks ko (m - 1) (omega arith) (near' ∙ bits') in
-      let longer = (len-iff T t m mp ms (len T k) (le_of_lt kt)).1
-      (rows-own T t k kp ks (m - 1) m₀.0 m₀.1 ∙ sym (rows-own T t k kp ks m m₁.0 m₁.1)) in
+      let k₁ = handle_rows m mp ms mo k ks bits in
+      let k₀ = handle_rows m mp ms mo (k - 1) (omega arith) (near ∙ bits) in
+      let m₁ = handle_rows k kp ks ko m ms bits' in
+      let m₀ = handle_rows k kp ks ko (m - 1) (omega arith) (near' ∙ bits') in
+      let longer = (len_iff T t m mp ms (len T k) (le_of_lt kt)).1
+      (rows_own T t k kp ks (m - 1) m₀.0 m₀.1 ∙ sym (rows_own T t k kp ks m m₁.0 m₁.1)) in
       sym (one_split T t m k mp ms (omega arith) k₁.1 longer)
 
 -- map 3's items stand for the splits other than the root, each for another

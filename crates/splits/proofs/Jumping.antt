@@ -13,7 +13,7 @@ use Rattle.tables.specs.Delimiters.{delimiters}
 use Rattle.splits.specs.Splits.{len, left, right, left_entry, right_entry}
 use Rattle.splits.specs.Inner.{Rising, goes_on}
 use Rattle.basics.proofs.Bools.{both}
-use Rattle.splits.proofs.Rows.{share_down, len-lt, len-iff, rows-own, left_lt, right-gt}
+use Rattle.splits.proofs.Rows.{share_down, len_lt, len_iff, rows_own, left_lt, right_gt}
 use Rattle.splits.proofs.Rows.{right_le, rows_are}
 use Rattle.splits.proofs.Parents.{left_split, right_split}
 
@@ -36,12 +36,12 @@ module _ (T : List ℕ) (t : Table T) (m : ℕ) (pos : 0 < m) (small : m < lengt
       → left T m ≤ i → i < right T m
       → (k : ℕ) → left T j ≤ k → k < right T j → (left T m ≤ k) × (k < right T m)
   within j i h s l low high low' high' k a b =
-      let one = rows-own T t j h s k a b in
-      let two = rows-own T t j h s i low high in
+      let one = rows_own T t j h s k a b in
+      let two = rows_own T t j h s i low high in
       let same =
-      share_down (len T m) (len T j) (key_at T k) (key_at T i) l (le_of_lt (len-lt T t j h s)) (one ∙ sym two) in
+      share_down (len T m) (len T j) (key_at T k) (key_at T i) l (le_of_lt (len_lt T t j h s)) (one ∙ sym two) in
       (rows_are T t m pos small k (omega (arith, right_le T t j h s))).1
-      (same ∙ rows-own T t m pos small i low' high')
+      (same ∙ rows_own T t m pos small i low' high')
 
   -- so its ends lie within
   nested : (j i : ℕ) → 0 < j → j < length T → len T m ≤ len T j → left T j ≤ i → i < right T j
@@ -57,9 +57,9 @@ module _ (T : List ℕ) (t : Table T) (m : ℕ) (pos : 0 < m) (small : m < lengt
       let le = right_le T t m pos small in
       let p : 0 < j = omega arith in
       let s : j < length T = omega arith in
-      let one = rows-own T t m pos small (j - 1) (omega arith) (omega arith) in
-      let two = rows-own T t m pos small j (omega arith) g in
-      let longer = (len-iff T t j p s (len T m) (le_of_lt (len-lt T t m pos small))).1 (one ∙ sym two) in
+      let one = rows_own T t m pos small (j - 1) (omega arith) (omega arith) in
+      let two = rows_own T t m pos small j (omega arith) g in
+      let longer = (len_iff T t j p s (len T m) (le_of_lt (len_lt T t m pos small))).1 (one ∙ sym two) in
       omega (arith, goes_false T j (len T m) e p s)
 
 -- the jumps of the code, for the split m whose length is l: `go` is whether it jumps on from row j
@@ -88,13 +88,13 @@ module _ (b : ℕ) (keys : List ℕ) (m l : ℕ) (r : Rising b keys m) (e : l �
       let p = goes_split on in
       let stored : v ≡ left T j = is p.0 ∙ left_split T j p.0 in
       let lt = left_lt T r.table j p.0 p.1 in
-      let gt = right-gt T r.table j p.0 p.1 in
-      let end = right-gt T r.table m pos small in
+      let gt = right_gt T r.table j p.0 p.1 in
+      let end = right_gt T r.table m pos small in
       rw stored (lt, (nested T r.table m pos small j j p.0 p.1 p.2 (omega arith) gt i (omega arith)).0)
 
   pub left_stop : go ≡ false → j < m → left T m ≤ j → j ≡ left_entry T m
   left_stop off g i =
-      let end = right-gt T r.table m pos small in
+      let end = right_gt T r.table m pos small in
       let no : ¬ (left T m < j) = λ h. goes_within T r.table m pos small j h (omega arith) (stays off) in
       rw (left_split T m pos) (omega arith)
 
@@ -105,7 +105,7 @@ module _ (b : ℕ) (keys : List ℕ) (m l : ℕ) (r : Rising b keys m) (e : l �
       let p = goes_split on in
       let stored : v ≡ right T j = is p.1 ∙ right_split T j p.0 in
       let lt = left_lt T r.table j p.0 p.1 in
-      let gt = right-gt T r.table j p.0 p.1 in
+      let gt = right_gt T r.table j p.0 p.1 in
       let end = left_lt T r.table m pos small in
       let ends =
       nested T r.table m pos small j (j - 1) p.0 p.1 p.2 (omega arith) (omega arith) (omega arith)

@@ -16,7 +16,7 @@ use Rattle.splits.specs.Splits.{len, left, right, smaller_of, root_to, root, par
 use Rattle.splits.specs.Splits.{left_entry, right_entry, length_entry}
 use Rattle.splits.specs.Vouched.{RootLeast, RootOnly}
 use Rattle.basics.proofs.Bools.{by_test}
-use Rattle.splits.proofs.Rows.{left_lt, right-gt, right_le, rows-own, left_len, right_len, one_split}
+use Rattle.splits.proofs.Rows.{left_lt, right_gt, right_le, rows_own, left_len, right_len, one_split}
 
 -- of the splits 1 to M, r has the smallest len
 record Smallest (T : List ℕ) (M r : ℕ) : Type 0 where
@@ -148,7 +148,7 @@ module _ (T : List ℕ) (t : Table T) where
       → (left T m ≡ 0) × (right T m ≡ length T)
   all_rows m pos small least =
       let lt = left_lt T t m pos small in
-      let gt = right-gt T t m pos small in
+      let gt = right_gt T t m pos small in
       let le = right_le T t m pos small in
       let none : ¬ (0 < left T m) =
       λ g. (omega (arith, left_len T t m pos small g, least (left T m) g (omega arith))) in
@@ -163,7 +163,7 @@ module _ (T : List ℕ) (t : Table T) where
       let p = root_pos T h in
       let q = root_lt T h in
       let all = all_rows (root T) p q (root_least T) in
-      rows-own T t (root T) p q i (omega arith) (omega arith)
+      rows_own T t (root T) p q i (omega arith) (omega arith)
 
 -- and the root is the only split with the smallest len
 pub root_only : RootOnly
@@ -185,7 +185,7 @@ module _ (T : List ℕ) (t : Table T) where
   -- it isn't row 0
   pub ends_apart : (m : ℕ) → 0 < m → m < length T → (left_entry T m < length T) × (0 < right_entry T m)
   ends_apart m pos small =
-      rw (left_split T m pos, right_split T m pos) (omega (arith, left_lt T t m pos small, right-gt T t m pos small))
+      rw (left_split T m pos, right_split T m pos) (omega (arith, left_lt T t m pos small, right_gt T t m pos small))
 
 -- the parent's length by the entries of the stores
 pub parent_by : (T : List ℕ) (m : ℕ) → 0 < m

@@ -97,75 +97,75 @@ module _ (T : List ℕ) (t : Table T) where
     prior : key_at T (m - 1) < key_at T m
     prior = keys_above T t (m - 1) m (omega arith) small
 
-    pub len-lt : len T m < 64
-    len-lt = shared_lt (key_at T (m - 1)) (key_at T m) (t.fits (m - 1) (omega arith)) (t.fits m small) prior
+    pub len_lt : len T m < 64
+    len_lt = shared_lt (key_at T (m - 1)) (key_at T m) (t.fits (m - 1) (omega arith)) (t.fits m small) prior
 
     -- rows m - 1 and m share the first L bits exactly if L is at most len
-    pub len-iff : (L : ℕ) → L ≤ 64
+    pub len_iff : (L : ℕ) → L ≤ 64
         → (L ≤ len T m) ↔ (first_bits L (key_at T (m - 1)) ≡ first_bits L (key_at T m))
-    len-iff L h = shared_iff (key_at T (m - 1)) (key_at T m) (t.fits (m - 1) (omega arith)) (t.fits m small) L h
+    len_iff L h = shared_iff (key_at T (m - 1)) (key_at T m) (t.fits (m - 1) (omega arith)) (t.fits m small) L h
 
     -- and part at bit len
-    pub len-bits : (bit_at (len T m) (key_at T (m - 1)) ≡ 0) × (bit_at (len T m) (key_at T m) ≡ 1)
-    len-bits = parting_bits (key_at T (m - 1)) (key_at T m) (t.fits (m - 1) (omega arith)) (t.fits m small) prior
+    pub len_bits : (bit_at (len T m) (key_at T (m - 1)) ≡ 0) × (bit_at (len T m) (key_at T m) ≡ 1)
+    len_bits = parting_bits (key_at T (m - 1)) (key_at T m) (t.fits (m - 1) (omega arith)) (t.fits m small) prior
 
     abbrev own : ℕ → ℕ
     own i = first_bits (len T m) (key_at T i)
 
     pub neighbours : own (m - 1) ≡ own m
-    neighbours = (len-iff (len T m) (le_of_lt len-lt)).0 (le_refl _)
+    neighbours = (len_iff (len T m) (le_of_lt len_lt)).0 (le_refl _)
 
-    left-edge : Edge (λ k. ltb (first_bits (len T m) k) (own m)) T (left T m)
+    left_edge : Edge (λ k. ltb (first_bits (len T m) k) (own m)) T (left T m)
     unfolding left
-    left-edge = edge (λ k. ltb (first_bits (len T m) k) (own m)) T
+    left_edge = edge (λ k. ltb (first_bits (len T m) k) (own m)) T
         (λ i h e.
         let up = bits_le (len T m) i (suc i) (omega arith) h in
         lt-ltb (own i) (own m) (omega (arith, ltb-true (own (suc i)) (own m) e)))
 
-    right-edge : Edge (λ k. leb (first_bits (len T m) k) (own m)) T (right T m)
+    right_edge : Edge (λ k. leb (first_bits (len T m) k) (own m)) T (right T m)
     unfolding right
-    right-edge = edge (λ k. leb (first_bits (len T m) k) (own m)) T
+    right_edge = edge (λ k. leb (first_bits (len T m) k) (own m)) T
         (λ i h e.
         let up = bits_le (len T m) i (suc i) (omega arith) h in
         le-leb (own i) (own m) (omega (arith, leb-true (own (suc i)) (own m) e)))
 
     -- rows below left have smaller first bits, rows from right on larger ones, those between the split's own
-    pub rows-below : (i : ℕ) → i < left T m → own i < own m
-    rows-below i h = ltb-true (own i) (own m) (left-edge.low i h)
+    pub rows_below : (i : ℕ) → i < left T m → own i < own m
+    rows_below i h = ltb-true (own i) (own m) (left_edge.low i h)
 
     pub rows_above : (i : ℕ) → right T m ≤ i → i < length T → own m < own i
-    rows_above i h l = leb-false (own i) (own m) (right-edge.high i h l)
+    rows_above i h l = leb-false (own i) (own m) (right_edge.high i h l)
 
-    pub rows-own : (i : ℕ) → left T m ≤ i → i < right T m → own i ≡ own m
-    rows-own i h l =
-        let fit : right T m ≤ length T = right-edge.most in
-        let not-above = leb-true (own i) (own m) (right-edge.low i l) in
-        omega (arith, ltb-false (own i) (own m) (left-edge.high i h (omega arith)))
+    pub rows_own : (i : ℕ) → left T m ≤ i → i < right T m → own i ≡ own m
+    rows_own i h l =
+        let fit : right T m ≤ length T = right_edge.most in
+        let not-above = leb-true (own i) (own m) (right_edge.low i l) in
+        omega (arith, ltb-false (own i) (own m) (left_edge.high i h (omega arith)))
 
     pub left_lt : left T m < m
     left_lt =
-        let no : ¬ (m ≤ left T m) = λ h. (omega (arith, rows-below (m - 1) (omega arith), neighbours)) in
+        let no : ¬ (m ≤ left T m) = λ h. (omega (arith, rows_below (m - 1) (omega arith), neighbours)) in
         omega arith
 
-    pub right-gt : m < right T m
-    right-gt = let no : ¬ (right T m ≤ m) = λ h. (omega (arith, rows_above m h small)) in omega arith
+    pub right_gt : m < right T m
+    right_gt = let no : ¬ (right T m ≤ m) = λ h. (omega (arith, rows_above m h small)) in omega arith
 
     pub right_le : right T m ≤ length T
-    right_le = right-edge.most
+    right_le = right_edge.most
 
     -- the first len + 1 bits of the split's rows: those of row m - 1 before m, those of row m from it on
-    pub low-side : (i : ℕ) → left T m ≤ i → i < m → first_bits (suc (len T m)) (key_at T i) ≡ 2 * own m
-    low-side i h g =
-        let same = rows-own i h (omega (arith, right-gt)) in
+    pub low_side : (i : ℕ) → left T m ≤ i → i < m → first_bits (suc (len T m)) (key_at T i) ≡ 2 * own m
+    low_side i h g =
+        let same = rows_own i h (omega (arith, right_gt)) in
         let up = bits_le (suc (len T m)) i (m - 1) (omega arith) (omega arith) in
-        let last = next_bit (len T m) (key_at T (m - 1)) len-lt in
-        omega (arith, next_bit (len T m) (key_at T i) len-lt, neighbours, len-bits.0)
+        let last = next_bit (len T m) (key_at T (m - 1)) len_lt in
+        omega (arith, next_bit (len T m) (key_at T i) len_lt, neighbours, len_bits.0)
 
-    pub high-side : (i : ℕ) → m ≤ i → i < right T m → first_bits (suc (len T m)) (key_at T i) ≡ 2 * own m + 1
-    high-side i h g =
-        let same = rows-own i (omega (arith, left_lt)) g in
+    pub high_side : (i : ℕ) → m ≤ i → i < right T m → first_bits (suc (len T m)) (key_at T i) ≡ 2 * own m + 1
+    high_side i h g =
+        let same = rows_own i (omega (arith, left_lt)) g in
         let up = bits_le (suc (len T m)) m i h (omega (arith, right_le)) in
-        omega (arith, next_bit (len T m) (key_at T i) len-lt, next_bit (len T m) (key_at T m) len-lt, len-bits.1)
+        omega (arith, next_bit (len T m) (key_at T i) len_lt, next_bit (len T m) (key_at T m) len_lt, len_bits.1)
 
   -- S2: at the ends of a split's rows stand splits with shorter strings
   pub left_len : (m : ℕ) → 0 < m → m < length T → 0 < left T m → len T (left T m) < len T m
@@ -173,21 +173,21 @@ module _ (T : List ℕ) (t : Table T) where
       let l = len T m in
       let a = left T m in
       let a_lt : a < m = left_lt m pos small in
-      let below = rows-below m pos small (a - 1) (omega arith) in
-      let own = rows-own m pos small a (le_refl a) (omega (arith, right-gt m pos small)) in
+      let below = rows_below m pos small (a - 1) (omega arith) in
+      let own = rows_own m pos small a (le_refl a) (omega (arith, right_gt m pos small)) in
       let no : ¬ (l ≤ len T a) =
-      λ g. (omega (arith, (len-iff a h (omega arith) l (le_of_lt (len-lt m pos small))).0 g)) in
+      λ g. (omega (arith, (len_iff a h (omega arith) l (le_of_lt (len_lt m pos small))).0 g)) in
       omega arith
 
   pub right_len : (m : ℕ) → 0 < m → m < length T → right T m < length T → len T (right T m) < len T m
   right_len m pos small h =
       let l = len T m in
       let b = right T m in
-      let b-gt : m < b = right-gt m pos small in
+      let b-gt : m < b = right_gt m pos small in
       let above = rows_above m pos small b (le_refl b) h in
-      let own = rows-own m pos small (b - 1) (omega (arith, left_lt m pos small)) (omega arith) in
+      let own = rows_own m pos small (b - 1) (omega (arith, left_lt m pos small)) (omega arith) in
       let no : ¬ (l ≤ len T b) =
-      λ g. (omega (arith, (len-iff b (omega arith) h l (le_of_lt (len-lt m pos small))).0 g)) in
+      λ g. (omega (arith, (len_iff b (omega arith) h l (le_of_lt (len_lt m pos small))).0 g)) in
       omega arith
 
   -- S3: a split with its string as long stands at no other of a split's rows
@@ -197,19 +197,19 @@ module _ (T : List ℕ) (t : Table T) where
       let p : 0 < k = omega arith in
       let s : k < length T = omega (arith, right_le m pos small) in
       let longer : first_bits (suc (len T m)) (key_at T (k - 1)) ≡ first_bits (suc (len T m)) (key_at T k) → ⊥ =
-      λ e. (omega (arith, (len-iff k p s (suc (len T m)) (len-lt m pos small)).1 e)) in
+      λ e. (omega (arith, (len_iff k p s (suc (len T m)) (len_lt m pos small)).1 e)) in
       let not-above : ¬ (m < k) =
-      λ l. longer (high-side m pos small (k - 1) (omega arith) (omega arith) ∙ sym (high-side m pos small k (omega arith) g)) in
+      λ l. longer (high_side m pos small (k - 1) (omega arith) (omega arith) ∙ sym (high_side m pos small k (omega arith) g)) in
       let not_below : ¬ (k < m) =
-      λ l. longer (low-side m pos small (k - 1) (omega arith) (omega arith) ∙ sym (low-side m pos small k (omega arith) l)) in
+      λ l. longer (low_side m pos small (k - 1) (omega arith) (omega arith) ∙ sym (low_side m pos small k (omega arith) l)) in
       omega arith
 
 -- so the rows with the split's string are those from left up to right
 pub rows_are : RowsAre
 rows_are T t m pos small i s = (
-  λ p. rows-own T t m pos small i p.0 p.1,
+  λ p. rows_own T t m pos small i p.0 p.1,
   λ e. (
-      let low : ¬ (i < left T m) = λ g. (omega (arith, rows-below T t m pos small i g)) in
+      let low : ¬ (i < left T m) = λ g. (omega (arith, rows_below T t m pos small i g)) in
       let high : ¬ (right T m ≤ i) = λ g. (omega (arith, rows_above T t m pos small i g s)) in
       omega arith),
 )

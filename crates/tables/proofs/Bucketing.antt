@@ -77,20 +77,20 @@ module _ (T : List ℕ) (t : Table T) where
     within : (i * b < bucket_end (length T) b i) × (bucket_end (length T) b i ≤ length T)
     within = bucket_ends (length T) b i hb h
 
-    one-or-more : One b T i ⊎ More b T i
-    one-or-more = eq-or-lt_of_le within.0
+    one_or_more : One b T i ⊎ More b T i
+    one_or_more = eq-or-lt_of_le within.0
 
-    length-bucket : length (bucket_of b T i) ≡ bucket_end (length T) b i - i * b
-    length-bucket = length-slice (i * b) (bucket_end (length T) b i) T within.1
+    length_bucket : length (bucket_of b T i) ≡ bucket_end (length T) b i - i * b
+    length_bucket = length-slice (i * b) (bucket_end (length T) b i) T within.1
 
-    pub length-one : One b T i → bucket_length b T i ≡ 63
+    pub length_one : One b T i → bucket_length b T i ≡ 63
     unfolding bucket_length
-    length-one q = rw (eq-eqb (length (bucket_of b T i)) 1 (omega (arith, length-bucket)))
+    length_one q = rw (eq-eqb (length (bucket_of b T i)) 1 (omega (arith, length_bucket)))
 
     pub length_more : More b T i → bucket_length b T i ≡ shared_bits (first_key b T i) (last_key b T i)
     unfolding bucket_length
     length_more q =
-        rw (ne_eqb (length (bucket_of b T i)) 1 (λ one. omega (arith, length-bucket)))
+        rw (ne_eqb (length (bucket_of b T i)) 1 (λ one. omega (arith, length_bucket)))
         (shared_by_slice (i * b) (bucket_end (length T) b i) q within.1)
 
     first_fits : first_key b T i < 2 ^ 64
@@ -102,10 +102,10 @@ module _ (T : List ℕ) (t : Table T) where
     first_below : More b T i → first_key b T i < last_key b T i
     first_below q = let w = within in keys_above T t (i * b) (bucket_end (length T) b i - 1) (omega arith) (omega arith)
 
-    pub length-small : bucket_length b T i ≤ 63
-    length-small =
-        ⊎_elim (λ one. omega (arith, length-one one))
-        (λ more. omega (arith, length_more more, shared_lt (first_key b T i) (last_key b T i) first_fits last_fits (first_below more))) one-or-more
+    pub length_small : bucket_length b T i ≤ 63
+    length_small =
+        ⊎_elim (λ one. omega (arith, length_one one))
+        (λ more. omega (arith, length_more more, shared_lt (first_key b T i) (last_key b T i) first_fits last_fits (first_below more))) one_or_more
 
     -- two keys or more are the same up to digit k, and part there
     parts : More b T i → (k : ℕ) → bucket_length b T i + suc k ≡ 64
@@ -117,7 +117,7 @@ module _ (T : List ℕ) (t : Table T) where
     -- every row of the bucket has the bucket's prefix
     pub prefix_same : (r : ℕ) → i * b ≤ r → r < bucket_end (length T) b i
         → prefix_item (key_at T r) (bucket_length b T i) ≡ bucket_prefix b T i
-    prefix_same r low high = ⊎_elim alone among one-or-more
+    prefix_same r low high = ⊎_elim alone among one_or_more
       where
         alone : One b T i → prefix_item (key_at T r) (bucket_length b T i) ≡ bucket_prefix b T i
         alone one = let same : r ≡ i * b = omega arith in rw same
@@ -133,7 +133,7 @@ module _ (T : List ℕ) (t : Table T) where
             let shares : l ≤ shared_bits (first_key b T i) (key_at T r) = omega (arith, length_more more) in
             let bits =
             (shared_iff (first_key b T i) (key_at T r) first_fits (t.fits r (omega arith)) l
-            (omega (arith, length-small))).0 shares in
+            (omega (arith, length_small))).0 shares in
             ap (λ (u : ℕ). u * 2 ^ (64 - l) + 2 ^ (63 - l)) (sym bits)
 
   -- no two buckets have the same prefix: the earlier has two keys or more, and the bit at which they part is set in
@@ -148,8 +148,8 @@ module _ (T : List ℕ) (t : Table T) where
       let next : (bucket_end n b i ≤ j * b) × More b T i =
       omega (arith, next_row i b, mul-le-mul_right {m = i + 1} {n = j} b (omega arith)) in
       let high = keys_above T t (bucket_end n b i - 1) (j * b) (omega arith) begins in
-      let small = length-small b i some there in
-      let small' = length-small b j some h in
+      let small = length_small b i some there in
+      let small' = length_small b j some h in
       let inj =
       item_inj (first_key b T i) (first_key b T j) (bucket_length b T i) (bucket_length b T j) (omega arith)
       (omega arith) e in
@@ -158,8 +158,8 @@ module _ (T : List ℕ) (t : Table T) where
       let p = parts b i some there next.1 k (omega arith) in
       let bit =
       third (first_key b T i) (last_key b T i) (first_key b T j) k p.0 p.1 (omega arith) (rw size at inj.1) in
-      ⊎_elim (λ one. let all : k ≡ 0 = omega (arith, length-one b j some h one) in omega (arith, rw all at bit.0))
-      (λ more. omega (arith, parts b j some h more k (omega arith), halve (first_key b T j) k, halve (last_key b T j) k)) (one-or-more b j some h)
+      ⊎_elim (λ one. let all : k ≡ 0 = omega (arith, length_one b j some h one) in omega (arith, rw all at bit.0))
+      (λ more. omega (arith, parts b j some h more k (omega arith), halve (first_key b T j) k, halve (last_key b T j) k)) (one_or_more b j some h)
 
 -- a test that comes out true let the ones before it fail
 passed : (t u : Bool) → cond t false u ≡ true → (t ≡ false) × (u ≡ true)

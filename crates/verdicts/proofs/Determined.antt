@@ -41,7 +41,7 @@ same_filling {v = v} {v'} {S} {S'} e f F G = record {
 module _ {judged : BuildSaid} {w : Sizes} {Jams : (map size : ℕ) → Type 0} {Jamless : Type 0}
     {Filled : Stores → Type 0} {S : Stores}
     (one : (m p m' p' : ℕ) → Jams m p → Jams m' p' → (m ≡ m') × (p ≡ p'))
-    (not_None : (m p : ℕ) → Jams m p → Jamless → ⊥) where
+    (not_none : (m p : ℕ) → Jams m p → Jamless → ⊥) where
   pub ends_alike : (v v' : Verdict) {S₁ S₂ : Stores} → Ended judged w Jams Jamless Filled S (said_by_build v) S₁
       → Ended judged w Jams Jamless Filled S (said_by_build v') S₂ → OneEnd Filled v S₁ v' S₂
   ends_alike v v' (refusal k i j e c) (refusal k' i' j' e' c') =
@@ -52,7 +52,7 @@ module _ {judged : BuildSaid} {w : Sizes} {Jams : (map size : ℕ) → Type 0} {
   ends_alike v v' (jam m p j J e c) (jam m' p' j' J' e' c') =
       let same = one m' p' m p J' J in
       same_refusal e (e' ∙ ap₂ jammed same.0 same.1) (jam_not_taken m p refl) (c ∙ sym c')
-  ends_alike v v' (jam m p j J e c) (accepted j' N e' F) = absurd (not_None m p J N)
+  ends_alike v v' (jam m p j J e c) (accepted j' N e' F) = absurd (not_none m p J N)
   ends_alike v v' (accepted j N e F) (refusal k' i' j' e' c') = not_taken k' i' j' j
-  ends_alike v v' (accepted j N e F) (jam m p j' J e' c') = absurd (not_None m p J N)
+  ends_alike v v' (accepted j N e F) (jam m p j' J e' c') = absurd (not_none m p J N)
   ends_alike v v' (accepted j N e F) (accepted j' N' e' G) = same_filling e e' F G

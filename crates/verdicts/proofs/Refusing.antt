@@ -33,24 +33,24 @@ module _ (keys : List ℕ) (b : ℕ) {limit : Judged}
     within = limits_passed (length keys) b (sym (ap said_by_judge passes) ∙ limits)
 
     -- the limits within which lengths are named
-    pub within-limits : (1 ≤ b) × (b ≤ 256) × (length keys ≤ 32768)
-    within-limits = let W = within in (omega (arith, W.two), W.most, W.few)
+    pub within_limits : (1 ≤ b) × (b ≤ 256) × (length keys ≤ 32768)
+    within_limits = let W = within in (omega (arith, W.two), W.most, W.few)
 
-    judged-as : {want w : Sizes} → w ≡ want → (have : Sizes) {rest v : Judged}
+    judged_as : {want w : Sizes} → w ≡ want → (have : Sizes) {rest v : Judged}
         → said_by_judge rest ≡ fall_or_short keys have w → rest ≡ v → judged keys b have want ≡ said_by_judge v
-    judged-as is have judges e = judged_by keys b have within is judges ∙ ap said_by_judge e
+    judged_as is have judges e = judged_by keys b have within is judges ∙ ap said_by_judge e
 
     module _ {want w : Sizes} (is : w ≡ want) {S : Stores} {rest : Judged}
         (judges : said_by_judge rest ≡ fall_or_short keys (sizes_of S) w) where
-      pub judge-refuses : {Jams : (map size : ℕ) → Type 0} {Jamless : Type 0} {Filled : Stores → Type 0} {r : Refusal}
+      pub judge_refuses : {Jams : (map size : ℕ) → Type 0} {Jamless : Type 0} {Filled : Stores → Type 0} {r : Refusal}
           → rest ≡ Refused r
           → Ended (judged keys b (sizes_of S) want) want Jams Jamless Filled S (refused (number r) (names r)) S
-      judge-refuses e = refusal _ _ (judged-as is (sizes_of S) judges e) refl refl
+      judge_refuses e = refusal _ _ (judged_as is (sizes_of S) judges e) refl refl
 
       -- keys that rise are a table
-      pub judge-passes : rest ≡ Passed → ((i : ℕ) → i < length keys → key_at keys i < 2 ^ 64) → Ready keys b want S
-      judge-passes e words =
-          let all : judged keys b (sizes_of S) want ≡ taken = judged-as is (sizes_of S) judges e in
+      pub judge_passes : rest ≡ Passed → ((i : ℕ) → i < length keys → key_at keys i < 2 ^ 64) → Ready keys b want S
+      judge_passes e words =
+          let all : judged keys b (sizes_of S) want ≡ taken = judged_as is (sizes_of S) judges e in
           record {
             judged = all;
             table = no_fall_table keys words (judged_passed keys b (sizes_of S) want all).rises;

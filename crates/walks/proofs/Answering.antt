@@ -16,14 +16,14 @@ use Rattle.words.proofs.Probing.{probes_from}
 use Rattle.tables.specs.Tables.{key_at, Table, smaller}
 use Rattle.splits.specs.Splits.{len, root, left_entry, right_entry}
 use Rattle.basics.proofs.Bools.{both, by_test}
-use Rattle.splits.proofs.Rows.{less_by, len-lt}
+use Rattle.splits.proofs.Rows.{less_by, len_lt}
 use Rattle.splits.proofs.Parents.{root_pos, root_lt, root_all, left_root, left_split, right_split, length_split}
 use Rattle.walks.specs.Walk.{agrees, on_path, accepted, Descent, descend, Answer, before, spoiled}
 use Rattle.walks.specs.Walk.{Walk, decide, walk, path_walk, stored_length, store_walk, Stored}
 use Rattle.walks.specs.Vouched.{TrueLengths, LongRoot, LongSplit}
 use Rattle.walks.proofs.Paths.{OnPath}
-use Rattle.walks.proofs.Descending.{accepted_means, descend-probes, descend-split, descend_same}
-use Rattle.walks.proofs.Descending.{onward_split, Deepest, descend-path, descend_deep}
+use Rattle.walks.proofs.Descending.{accepted_means, descend_probes, descend_split, descend_same}
+use Rattle.walks.proofs.Descending.{onward_split, Deepest, descend_path, descend_deep}
 use Rattle.walks.proofs.Deciding.{decides, smaller_low, smaller_high, smaller_most}
 
 abbrev pub halt : ℕ → Answer → Walk
@@ -56,25 +56,25 @@ module _ (T : List ℕ) (x : ℕ) (find lefts rights lens : ℕ → ℕ) where
 
   -- two keys or more
   module _ (h : 2 ≤ length T) (r : ℕ) (e : lefts 0 ≡ r) where
-    walk-two : walked
+    walk_two : walked
         ≡ cond (leb 1 r && (ltb r (length T) && leb (lens r) 63))
         (cond (agrees T x r (lens r)) (ended T x lefts rights lens (descend T lens x find 64 r 64))
         (halt r (before (cond (leb x (key_at T r)) 0 (length T)))))
         (halt r spoiled)
     unfolding walk
-    walk-two = rw (ne_eqb (length T) 0 (λ z. omega arith), ne_eqb (length T) 1 (λ z. omega arith), e)
+    walk_two = rw (ne_eqb (length T) 0 (λ z. omega arith), ne_eqb (length T) 1 (λ z. omega arith), e)
 
-    pub walk-off : Rooted r → agrees T x r (lens r) ≡ false
+    pub walk_off : Rooted r → agrees T x r (lens r) ≡ false
         → walked ≡ halt r (before (cond (leb x (key_at T r)) 0 (length T)))
-    walk-off R off = walk-two ∙ (rw (root_test r R, off))
+    walk_off R off = walk_two ∙ (rw (root_test r R, off))
 
-    pub walk-on : Rooted r → agrees T x r (lens r) ≡ true
+    pub walk_on : Rooted r → agrees T x r (lens r) ≡ true
         → walked ≡ ended T x lefts rights lens (descend T lens x find 64 r 64)
-    walk-on R on = walk-two ∙ (rw (root_test r R, on))
+    walk_on R on = walk_two ∙ (rw (root_test r R, on))
 
-    pub walk-bad : (Rooted r → ⊥) → walked ≡ halt r spoiled
-    walk-bad fails =
-        walk-two
+    pub walk_bad : (Rooted r → ⊥) → walked ≡ halt r spoiled
+    walk_bad fails =
+        walk_two
         ∙ by_test (leb 1 r && (ltb r (length T) && leb (lens r) 63))
         (λ k. let p = both (leb 1 r) _ k in let q = both (ltb r (length T)) (leb (lens r) 63) p.1 in
         absurd (fails (leb-true 1 r p.0, ltb-true r (length T) q.0, leb-true (lens r) 63 q.1)))
@@ -97,7 +97,7 @@ module _ (T : List ℕ) (x : ℕ) (find lefts rights lens : ℕ → ℕ) where
   bound : lens (lefts 0) ≤ 63
       → let made = length (descend T lens x find 64 (lefts 0) 64).probed in let most =
       binary_digits (63 - lens (lefts 0)) in (made ≤ most) × (most ≤ 6)
-  bound h = probes_from (lens (lefts 0)) (omega arith) (descend-probes T lens x find 64 (lefts 0) 64 (omega arith))
+  bound h = probes_from (lens (lefts 0)) (omega arith) (descend_probes T lens x find 64 (lefts 0) 64 (omega arith))
 
   -- W5: over any stores the probes are no more than 63 less the root's length has binary digits
   pub walk_probes : length walked.probed ≤ binary_digits (63 - lens (lefts 0))
@@ -124,24 +124,24 @@ walk_same T x find lefts rights lens lens' same =
     (λ e. walk_none T x find lefts rights lens e ∙ sym (walk_none T x find lefts rights lens' e))
     (λ e. walk_one T x find lefts rights lens e ∙ sym (walk_one T x find lefts rights lens' e))
     (λ h.
-    walk-two T x find lefts rights lens h r refl
+    walk_two T x find lefts rights lens h r refl
     ∙ by_test (leb 1 r)
     (λ a. by_test (ltb r n)
     (λ b.
     let pos = leb-true 1 r a in
     let small = ltb-true r n b in
-    let end = descend-split T lens' x find 64 r 64 pos small in
+    let end = descend_split T lens' x find 64 r 64 pos small in
     rw (same r pos small, descend_same T x find lens lens' same 64 r 64 pos small, same _ end.0 end.1))
     (λ b. rw (a, b)))
     (λ a. rw a)
-    ∙ sym (walk-two T x find lefts rights lens' h r refl))
+    ∙ sym (walk_two T x find lefts rights lens' h r refl))
 
 module _ (T : List ℕ) (t : Table T) (x : ℕ) where
   rooted : 2 ≤ length T → (0 < root T) × (root T < length T) × (len T (root T) ≤ 63)
   rooted h =
       let p = root_pos T h in
       let s = root_lt T h in
-      (p, s, omega (arith, len-lt T t (root T) p s))
+      (p, s, omega (arith, len_lt T t (root T) p s))
 
   root_path : 2 ≤ length T → on_path T x (root T) ≡ true → OnPath T x (root T)
   root_path h e = record { pos = root_pos T h; small = root_lt T h; same = eqb-true _ _ e }
@@ -150,7 +150,7 @@ module _ (T : List ℕ) (t : Table T) (x : ℕ) where
   end_deepest : 2 ≤ length T → on_path T x (root T) ≡ true
       → Deepest T x (descend T (len T) x (onward_split T x) 64 (root T) 64).node
   end_deepest h e =
-      descend_deep T t x 64 (root T) 64 (root_path h e) (le_refl 64) (λ k P. len-lt T t k P.pos P.small)
+      descend_deep T t x 64 (root T) 64 (root_path h e) (le_refl 64) (λ k P. len_lt T t k P.pos P.small)
       (omega arith)
 
   -- a key without the root's string stands before all rows or after all
@@ -200,9 +200,9 @@ module _ (T : List ℕ) (t : Table T) (x : ℕ) where
       (λ on.
       let D = end_deepest h on in
       let m = (descend T (len T) x find 64 (root T) 64).node in
-      rw (walk-on T x find ls rs (len T) h (root T) (left_root T) (rooted h) on)
+      rw (walk_on T x find ls rs (len T) h (root T) (left_root T) (rooted h) on)
       (rw (left_split T m D.path.pos, right_split T m D.path.pos) (decides T t x m D)))
-      (λ off. rw (walk-off T x find ls rs (len T) h (root T) (left_root T) (rooted h) off) (ap before (off_root h off))))
+      (λ off. rw (walk_off T x find ls rs (len T) h (root T) (left_root T) (rooted h) off) (ap before (off_root h off))))
 
   -- W3: over what an accepted build leaves the walk is that over the table
   pub stored_walk : (lookUp : ℕ → ℕ) (lefts rights lengths : List ℕ) → Stored T lookUp lefts rights lengths
@@ -226,13 +226,13 @@ module _ (T : List ℕ) (t : Table T) (x : ℕ) where
       let D = end_deepest h on in
       let d = descend T (len T) x find 64 (root T) 64 in
       let same : descend T (len T) x look 64 (root T) 64 ≡ d =
-      descend-path T t x lookUp S.handles_lead 64 (root T) 64 (root_path h on) (le_refl 64) in
+      descend_path T t x lookUp S.handles_lead 64 (root T) 64 (root_path h on) (le_refl 64) in
       let s = D.path.small in
-      walk-on T x look lefts' rights' (len T) h (root T) at-root (rooted h) on
+      walk_on T x look lefts' rights' (len T) h (root T) at-root (rooted h) on
       ∙ (rw (same, S.lefts_are d.node s, S.rights_are d.node s))
-      ∙ sym (walk-on T x find ls rs (len T) h (root T) (left_root T) (rooted h) on))
-      (λ off. walk-off T x look lefts' rights' (len T) h (root T) at-root (rooted h) off
-      ∙ sym (walk-off T x find ls rs (len T) h (root T) (left_root T) (rooted h) off)))
+      ∙ sym (walk_on T x find ls rs (len T) h (root T) (left_root T) (rooted h) on))
+      (λ off. walk_off T x look lefts' rights' (len T) h (root T) at-root (rooted h) off
+      ∙ sym (walk_off T x find ls rs (len T) h (root T) (left_root T) (rooted h) off)))
 
 -- the laws of specs/Vouched
 pub true_lengths : TrueLengths
@@ -240,7 +240,7 @@ true_lengths T x find lefts rights lens is = walk_same T x find lefts rights len
 
 pub long_root : LongRoot
 long_root T x find lefts rights lens two long =
-    ap (λ (w : Walk). w.answer) (walk-bad T x find lefts rights lens two (lefts 0) refl (λ R. omega (arith, R.2)))
+    ap (λ (w : Walk). w.answer) (walk_bad T x find lefts rights lens two (lefts 0) refl (λ R. omega (arith, R.2)))
 
 pub long_split : LongSplit
 long_split T lens x f upper m top long =

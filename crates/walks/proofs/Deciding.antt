@@ -13,9 +13,9 @@ use Rattle.words.specs.Keys.{first_bits, bit_at}
 use Rattle.tables.specs.Tables.{key_at, Table, smaller}
 use Rattle.splits.specs.Splits.{len, left, right}
 use Rattle.basics.proofs.Bools.{by_test}
-use Rattle.splits.proofs.Rows.{next_bit, less_by, smaller_edge, len-lt, len-iff}
-use Rattle.splits.proofs.Rows.{neighbours, rows-below, rows_above, low-side, high-side}
-use Rattle.splits.proofs.Rows.{left_lt, right-gt, right_le}
+use Rattle.splits.proofs.Rows.{next_bit, less_by, smaller_edge, len_lt, len_iff}
+use Rattle.splits.proofs.Rows.{neighbours, rows_below, rows_above, low_side, high_side}
+use Rattle.splits.proofs.Rows.{left_lt, right_gt, right_le}
 use Rattle.walks.specs.Walk.{before, decide}
 use Rattle.walks.proofs.Paths.{OnPath}
 use Rattle.walks.proofs.Descending.{Deepest}
@@ -53,17 +53,17 @@ module _ (T : List ℕ) (t : Table T) (x : ℕ) where
     small : m < length T
     small = D.path.small
 
-    from-left : left T m ≤ c
-    from-left =
+    from_left : left T m ≤ c
+    from_left =
         let no : ¬ (c < left T m) = λ g. (
         let in_table : c < length T = omega (arith, small, left_lt T t m pos small) in
         let under : first_bits (len T m) (key_at T c) < first_bits (len T m) x =
-        rw D.path.same (rows-below T t m pos small c g) in
+        rw D.path.same (rows_below T t m pos small c g) in
         omega (arith, smaller_high c (le_refl c) in_table, less_by (len T m) (key_at T c) x under)) in
         omega arith
 
-    to-right : c ≤ right T m
-    to-right =
+    to_right : c ≤ right T m
+    to_right =
         let b = right T m in
         let no : ¬ (b < c) = λ g. (
         let in_table : b < length T = omega (arith, smaller_most) in
@@ -80,25 +80,25 @@ module _ (T : List ℕ) (t : Table T) (x : ℕ) where
         let P = between_on c p in_table (smaller_low (c - 1) (omega arith)) (smaller_high c (le_refl c) in_table) in
         let both-sides : first_bits (suc (len T m)) (key_at T (c - 1)) ≡ first_bits (suc (len T m)) (key_at T c) =
         elim (dec_le m c) [
-          | yes k ↦ high-side T t m pos small (c - 1) (omega arith) (omega arith)
-              ∙ sym (high-side T t m pos small c k g)
-          | no k ↦ low-side T t m pos small (c - 1) (omega arith) (omega arith)
-              ∙ sym (low-side T t m pos small c (omega arith) (omega arith))
+          | yes k ↦ high_side T t m pos small (c - 1) (omega arith) (omega arith)
+              ∙ sym (high_side T t m pos small c k g)
+          | no k ↦ low_side T t m pos small (c - 1) (omega arith) (omega arith)
+              ∙ sym (low_side T t m pos small c (omega arith) (omega arith))
         ] in
-        omega (arith, D.deep c P, (len-iff T t c p in_table (suc (len T m)) (len-lt T t m pos small)).1 both-sides)
+        omega (arith, D.deep c P, (len_iff T t c p in_table (suc (len T m)) (len_lt T t m pos small)).1 both-sides)
 
-    bit-zero : bit_at (len T m) x ≡ 0 → c ≤ m
-    bit-zero e =
-        let lt = len-lt T t m pos small in
-        let side = high-side T t m pos small m (le_refl m) (right-gt T t m pos small) in
+    bit_zero : bit_at (len T m) x ≡ 0 → c ≤ m
+    bit_zero e =
+        let lt = len_lt T t m pos small in
+        let side = high_side T t m pos small m (le_refl m) (right_gt T t m pos small) in
         let less = less_by (suc (len T m)) x (key_at T m) (omega (arith, next_bit (len T m) x lt, D.path.same)) in
         let no : ¬ (m < c) = λ g. (omega (arith, smaller_low m g)) in
         omega arith
 
-    bit-one : ¬ (bit_at (len T m) x ≡ 0) → m ≤ c
-    bit-one e =
-        let lt = len-lt T t m pos small in
-        let side = low-side T t m pos small (m - 1) (omega (arith, left_lt T t m pos small)) (omega (arith, pos)) in
+    bit_one : ¬ (bit_at (len T m) x ≡ 0) → m ≤ c
+    bit_one e =
+        let lt = len_lt T t m pos small in
+        let side = low_side T t m pos small (m - 1) (omega (arith, left_lt T t m pos small)) (omega (arith, pos)) in
         let less = less_by (suc (len T m)) (key_at T (m - 1)) x
         (omega (arith, next_bit (len T m) x lt, D.path.same)) in
         let no : ¬ (c < m) = λ g. (omega (arith, smaller_high (m - 1) (omega arith) (omega (arith, small)))) in
@@ -110,15 +110,15 @@ module _ (T : List ℕ) (t : Table T) (x : ℕ) where
         let a = left T m in
         let b = right T m in
         let am : a < m = left_lt T t m pos small in
-        let mb : m < b = right-gt T t m pos small in
+        let mb : m < b = right_gt T t m pos small in
         let bn : b ≤ length T = right_le T t m pos small in
-        let ac : a ≤ c = from-left in
-        let cb : c ≤ b = to-right in
+        let ac : a ≤ c = from_left in
+        let cb : c ≤ b = to_right in
         let ms : m < length T = small in
         rw (lt-ltb a m am, lt-ltb m b mb, le-leb b (length T) bn)
         (by_test (eqb (bit_at (len T m) x) 0)
         (λ e.
-        let cm : c ≤ m = bit-zero (eqb-true _ _ e) in
+        let cm : c ≤ m = bit_zero (eqb-true _ _ e) in
         rw e (by_test (leb x (key_at T a))
         (λ k. let no : ¬ (a < c) = λ g. (omega (arith, smaller_low a g, leb-true x (key_at T a) k)) in
         let is : a ≡ c = omega arith in rw k (ap before is))
@@ -128,7 +128,7 @@ module _ (T : List ℕ) (t : Table T) (x : ℕ) where
         let is : m ≡ c = omega arith in
         rw k (ap before is))))
         (λ e.
-        let mc : m ≤ c = bit-one (eqb-false _ _ e) in
+        let mc : m ≤ c = bit_one (eqb-false _ _ e) in
         rw e (by_test (leb x (key_at T m))
         (λ k. let no : ¬ (m < c) = λ g. (omega (arith, smaller_low m g, leb-true x (key_at T m) k)) in
         let is : m ≡ c = omega arith in rw k (ap before is))

@@ -16,7 +16,7 @@ use Rattle.tables.specs.Tables.{key_at, Table}
 use Rattle.splits.specs.Splits.{len, root, handle_item}
 use Rattle.basics.proofs.Bools.{both, not_both, by_test}
 use Rattle.walks.specs.Walk.{agrees, probe_at, accepted, Descent, descend, TurnsSuffice, path_to}
-use Rattle.walks.proofs.Paths.{probe_fattest, OnPath, Least, path_to_least, handle-at}
+use Rattle.walks.proofs.Paths.{probe_fattest, OnPath, Least, path_to_least, handle_at}
 
 -- over any lengths and any look-up
 module _ (T : List ℕ) (lens : ℕ → ℕ) (x : ℕ) where
@@ -64,65 +64,65 @@ module _ (T : List ℕ) (lens : ℕ → ℕ) (x : ℕ) where
         let rest = descend T lens x find turns (cond ok m node) (cond ok upper f) in
         record { probed = f ∷ rest.probed; node = rest.node }
 
-    pub descend-goes : (turns node upper : ℕ) → suc (lens node) < upper
+    pub descend_goes : (turns node upper : ℕ) → suc (lens node) < upper
         → descend T lens x find (suc turns) node upper ≡ turn turns node upper
     unfolding descend turn
-    descend-goes turns node upper h = rw (lt-ltb (suc (lens node)) upper h)
+    descend_goes turns node upper h = rw (lt-ltb (suc (lens node)) upper h)
 
-    pub descend-stops : (turns node upper : ℕ) → upper ≤ suc (lens node)
+    pub descend_stops : (turns node upper : ℕ) → upper ≤ suc (lens node)
         → descend T lens x find turns node upper ≡ record { probed = []; node = node }
     unfolding descend
-    descend-stops zero node upper h = refl
-    descend-stops (suc turns) node upper h = rw (le-ltb (suc (lens node)) upper h)
+    descend_stops zero node upper h = refl
+    descend_stops (suc turns) node upper h = rw (le-ltb (suc (lens node)) upper h)
 
     -- a turn that accepts, and one that does not
-    pub descend-accepts : (turns node upper f m : ℕ)
+    pub descend_accepts : (turns node upper f m : ℕ)
         → suc (lens node) < upper → f ≡ probe_at (lens node) upper → m ≡ find f
         → accepted T lens x f upper m ≡ true → let rest = descend T lens x find turns m upper in
         descend T lens x find (suc turns) node upper ≡ record { probed = f ∷ rest.probed; node = rest.node }
     unfolding turn
-    descend-accepts turns node upper f m h e e' ok = descend-goes turns node upper h ∙ rw (← e, ← e', ok)
+    descend_accepts turns node upper f m h e e' ok = descend_goes turns node upper h ∙ rw (← e, ← e', ok)
 
-    pub descend-rejects : (turns node upper f m : ℕ)
+    pub descend_rejects : (turns node upper f m : ℕ)
         → suc (lens node) < upper → f ≡ probe_at (lens node) upper → m ≡ find f
         → accepted T lens x f upper m ≡ false → let rest = descend T lens x find turns node f in
         descend T lens x find (suc turns) node upper ≡ record { probed = f ∷ rest.probed; node = rest.node }
     unfolding turn
-    descend-rejects turns node upper f m h e e' ok = descend-goes turns node upper h ∙ rw (← e, ← e', ok)
+    descend_rejects turns node upper f m h e e' ok = descend_goes turns node upper h ∙ rw (← e, ← e', ok)
 
     -- W5: over any stores the probes are those of a fat binary search
-    pub descend-probes : (turns node upper : ℕ) → upper ≤ 64
+    pub descend_probes : (turns node upper : ℕ) → upper ≤ 64
         → Probes (lens node) upper (length (descend T lens x find turns node upper).probed)
     unfolding descend
-    descend-probes zero node upper h = done
-    descend-probes (suc turns) node upper h =
+    descend_probes zero node upper h = done
+    descend_probes (suc turns) node upper h =
         let f = probe_at (lens node) upper in
         let m = find f in
         elim (dec_le upper (suc (lens node))) [
-          | yes g ↦ rw (descend-stops (suc turns) node upper g) done
+          | yes g ↦ rw (descend_stops (suc turns) node upper g) done
           | no g ↦ (
               let room : suc (lens node) < upper = omega arith in
               let F = probe_fattest (lens node) upper room h in
               let within : f ≤ upper - 1 = F.within in
               by_test (accepted T lens x f upper m)
               (λ ok. let K = accepted_means f upper m ok in
-              rw (descend-accepts turns node upper f m room refl refl ok)
-              (onward f (lens m) F K.reach K.short (descend-probes turns m upper h)))
-              (λ ok. rw (descend-rejects turns node upper f m room refl refl ok)
-              (below f F (descend-probes turns node f (omega arith)))))
+              rw (descend_accepts turns node upper f m room refl refl ok)
+              (onward f (lens m) F K.reach K.short (descend_probes turns m upper h)))
+              (λ ok. rw (descend_rejects turns node upper f m room refl refl ok)
+              (below f F (descend_probes turns node f (omega arith)))))
         ]
 
     -- the turns never run out: more of them change nothing
-    pub descend-enough : (turns more node upper : ℕ) → turns ≤ more → upper ≤ 64 → upper ≤ suc (lens node) + turns
+    pub descend_enough : (turns more node upper : ℕ) → turns ≤ more → upper ≤ 64 → upper ≤ suc (lens node) + turns
         → descend T lens x find more node upper ≡ descend T lens x find turns node upper
-    descend-enough zero more node upper h top room =
-        descend-stops more node upper (omega arith) ∙ sym (descend-stops zero node upper (omega arith))
-    descend-enough (suc turns) zero node upper h top room = absurd (omega arith)
-    descend-enough (suc turns) (suc more) node upper h top room =
+    descend_enough zero more node upper h top room =
+        descend_stops more node upper (omega arith) ∙ sym (descend_stops zero node upper (omega arith))
+    descend_enough (suc turns) zero node upper h top room = absurd (omega arith)
+    descend_enough (suc turns) (suc more) node upper h top room =
         let f = probe_at (lens node) upper in
         let m = find f in
         elim (dec_le upper (suc (lens node))) [
-          | yes g ↦ descend-stops (suc more) node upper g ∙ sym (descend-stops (suc turns) node upper g)
+          | yes g ↦ descend_stops (suc more) node upper g ∙ sym (descend_stops (suc turns) node upper g)
           | no g ↦ (
               let wide : suc (lens node) < upper = omega arith in
               let F = probe_fattest (lens node) upper wide top in
@@ -131,33 +131,33 @@ module _ (T : List ℕ) (lens : ℕ → ℕ) (x : ℕ) where
               by_test (accepted T lens x f upper m)
               (λ ok.
               let reach : f ≤ lens m = (accepted_means f upper m ok).reach in
-              descend-accepts more node upper f m wide refl refl ok
+              descend_accepts more node upper f m wide refl refl ok
               ∙ ap (λ (d : Descent). record { probed = f ∷ d.probed; node = d.node })
-              (descend-enough turns more m upper (omega arith) top (omega arith))
-              ∙ sym (descend-accepts turns node upper f m wide refl refl ok))
+              (descend_enough turns more m upper (omega arith) top (omega arith))
+              ∙ sym (descend_accepts turns node upper f m wide refl refl ok))
               (λ ok.
-              descend-rejects more node upper f m wide refl refl ok
+              descend_rejects more node upper f m wide refl refl ok
               ∙ ap (λ (d : Descent). record { probed = f ∷ d.probed; node = d.node })
-              (descend-enough turns more node f (omega arith) (omega arith) (omega arith))
-              ∙ sym (descend-rejects turns node upper f m wide refl refl ok)))
+              (descend_enough turns more node f (omega arith) (omega arith) (omega arith))
+              ∙ sym (descend_rejects turns node upper f m wide refl refl ok)))
         ]
 
     -- from a split they lead to a split
-    pub descend-split : (turns node upper : ℕ) → 0 < node → node < length T
+    pub descend_split : (turns node upper : ℕ) → 0 < node → node < length T
         → let end = (descend T lens x find turns node upper).node in (0 < end) × (end < length T)
     unfolding descend
-    descend-split zero node upper h l = (h, l)
-    descend-split (suc turns) node upper h l =
+    descend_split zero node upper h l = (h, l)
+    descend_split (suc turns) node upper h l =
         let f = probe_at (lens node) upper in
         let m = find f in
         by_test (ltb (suc (lens node)) upper)
         (λ go. rw go (by_test (accepted T lens x f upper m)
-        (λ ok. let K = accepted_means f upper m ok in rw ok (descend-split turns m upper K.pos K.small))
-        (λ ok. rw ok (descend-split turns node f h l))))
+        (λ ok. let K = accepted_means f upper m ok in rw ok (descend_split turns m upper K.pos K.small))
+        (λ ok. rw ok (descend_split turns node f h l))))
         (λ stop. rw stop (h, l))
 
 pub turns_suffice : TurnsSuffice
-turns_suffice T lens x find more node upper h top = descend-enough T lens x find 64 more node upper h top (omega arith)
+turns_suffice T lens x find more node upper h top = descend_enough T lens x find 64 more node upper h top (omega arith)
 
 -- lengths that are the same at every split lead the same descent, through the same nodes
 module _ (T : List ℕ) (x : ℕ) (find lens lens' : ℕ → ℕ)
@@ -220,54 +220,54 @@ module _ (T : List ℕ) (t : Table T) (x : ℕ) where
       (handles : (m : ℕ) → 0 < m → m < length T → (m ≡ root T → ⊥) → lookUp (handle_item T m) ≡ m) where
     -- W1, W2: at a probe from a node on the path the look-up is accepted exactly if a split on the path is, and gives
     -- that one
-    look-finds : (node upper : ℕ) → OnPath T x node → suc (len T node) < upper → upper ≤ 64
+    look_finds : (node upper : ℕ) → OnPath T x node → suc (len T node) < upper → upper ≤ 64
         → let f = probe_at (len T node) upper in
         accepted T (len T) x f upper (onward_split T x f) ≡ true → lookUp (prefix_item x f) ≡ onward_split T x f
-    look-finds node upper N room top ok =
+    look_finds node upper N room top ok =
         let f = probe_at (len T node) upper in
         let v = onward_split T x f in
         let K = accepted_means T (len T) x f upper v ok in
-        let h = handle-at T t x node upper v N (onto K) room top K.reach K.short (found_least f upper K) in
+        let h = handle_at T t x node upper v N (onto K) room top K.reach K.short (found_least f upper K) in
         rw (← h.0) (handles v K.pos K.small h.1)
 
-    look-fails : (f upper : ℕ) → accepted T (len T) x f upper (onward_split T x f) ≡ false
+    look_fails : (f upper : ℕ) → accepted T (len T) x f upper (onward_split T x f) ≡ false
         → accepted T (len T) x f upper (lookUp (prefix_item x f)) ≡ false
-    look-fails f upper ok =
+    look_fails f upper ok =
         by_test (accepted T (len T) x f upper (lookUp (prefix_item x f)))
         (λ e. absurd (not_both (accepted_when T (len T) x f upper (onward_split T x f)
         (found f upper _ (accepted_means T (len T) x f upper (lookUp (prefix_item x f)) e))) ok))
         (λ e. e)
 
     -- W3
-    pub descend-path : (turns node upper : ℕ) → OnPath T x node → upper ≤ 64
+    pub descend_path : (turns node upper : ℕ) → OnPath T x node → upper ≤ 64
         → descend T (len T) x (λ f. lookUp (prefix_item x f)) turns node upper ≡ descend T (len T) x
         (onward_split T x) turns node upper
     unfolding descend
-    descend-path zero node upper N top = refl
-    descend-path (suc turns) node upper N top =
+    descend_path zero node upper N top = refl
+    descend_path (suc turns) node upper N top =
         let look : ℕ → ℕ = λ f. lookUp (prefix_item x f) in
         let f = probe_at (len T node) upper in
         let v = onward_split T x f in
         elim (dec_le upper (suc (len T node))) [
-          | yes g ↦ descend-stops T (len T) x look (suc turns) node upper g
-              ∙ sym (descend-stops T (len T) x (onward_split T x) (suc turns) node upper g)
+          | yes g ↦ descend_stops T (len T) x look (suc turns) node upper g
+              ∙ sym (descend_stops T (len T) x (onward_split T x) (suc turns) node upper g)
           | no g ↦ (
               let room : suc (len T node) < upper = omega arith in
               let F = probe_fattest (len T node) upper room top in
               let within : f ≤ upper - 1 = F.within in
               by_test (accepted T (len T) x f upper v)
               (λ ok.
-              let same : look f ≡ v = look-finds node upper N room top ok in
+              let same : look f ≡ v = look_finds node upper N room top ok in
               let K = accepted_means T (len T) x f upper v ok in
-              descend-accepts T (len T) x look turns node upper f v room refl (sym same) ok
+              descend_accepts T (len T) x look turns node upper f v room refl (sym same) ok
               ∙ ap (λ (d : Descent). record { probed = f ∷ d.probed; node = d.node })
-              (descend-path turns v upper (onto K) top)
-              ∙ sym (descend-accepts T (len T) x (onward_split T x) turns node upper f v room refl refl ok))
+              (descend_path turns v upper (onto K) top)
+              ∙ sym (descend_accepts T (len T) x (onward_split T x) turns node upper f v room refl refl ok))
               (λ ok.
-              descend-rejects T (len T) x look turns node upper f (look f) room refl refl (look-fails f upper ok)
+              descend_rejects T (len T) x look turns node upper f (look f) room refl refl (look_fails f upper ok)
               ∙ ap (λ (d : Descent). record { probed = f ∷ d.probed; node = d.node })
-              (descend-path turns node f N (omega arith))
-              ∙ sym (descend-rejects T (len T) x (onward_split T x) turns node upper f v room refl refl ok)))
+              (descend_path turns node f N (omega arith))
+              ∙ sym (descend_rejects T (len T) x (onward_split T x) turns node upper f v room refl refl ok)))
         ]
 
   -- W4: the walk over the table ends there
@@ -280,7 +280,7 @@ module _ (T : List ℕ) (t : Table T) (x : ℕ) where
       let f = probe_at (len T node) upper in
       let v = onward_split T x f in
       elim (dec_le upper (suc (len T node))) [
-        | yes g ↦ rw (descend-stops T (len T) x (onward_split T x) (suc turns) node upper g) (record {
+        | yes g ↦ rw (descend_stops T (len T) x (onward_split T x) (suc turns) node upper g) (record {
           path =
               N;
           deep = λ k P. omega (arith, all k P);
@@ -294,7 +294,7 @@ module _ (T : List ℕ) (t : Table T) (x : ℕ) where
             (λ ok.
             let K = accepted_means T (len T) x f upper v ok in
             let reach : f ≤ len T v = K.reach in
-            rw (descend-accepts T (len T) x (onward_split T x) turns node upper f v room refl refl ok)
+            rw (descend_accepts T (len T) x (onward_split T x) turns node upper f v room refl refl ok)
             (descend_deep turns v upper (onto K) top all (omega arith)))
             (λ ok.
             let less : (k : ℕ) → OnPath T x k → len T k < f = λ k P. (
@@ -307,6 +307,6 @@ module _ (T : List ℕ) (t : Table T) (x : ℕ) where
               same = P.same;
             }))) ok in
             omega arith) in
-            rw (descend-rejects T (len T) x (onward_split T x) turns node upper f v room refl refl ok)
+            rw (descend_rejects T (len T) x (onward_split T x) turns node upper f v room refl refl ok)
             (descend_deep turns node f N (omega arith) less (omega arith))))
       ]

@@ -16,8 +16,8 @@ use Rattle.words.proofs.Fatness.{fattest_one, fattest_of_found}
 use Rattle.tables.specs.Tables.{key_at, Table}
 use Rattle.splits.specs.Splits.{len, left, right, root, parent_len, handle_len, handle_item}
 use Rattle.basics.proofs.Bools.{not_both}
-use Rattle.splits.proofs.Rows.{share_down, between, len-lt, len-iff, neighbours, rows-own}
-use Rattle.splits.proofs.Rows.{left_lt, right-gt, right_le, left_len, right_len}
+use Rattle.splits.proofs.Rows.{share_down, between, len_lt, len_iff, neighbours, rows_own}
+use Rattle.splits.proofs.Rows.{left_lt, right_gt, right_le, left_len, right_len}
 use Rattle.splits.proofs.Parents.{root_least, parent_left, parent_right, parent_lt}
 use Rattle.walks.specs.Walk.{on_path, probe_at, path_to}
 
@@ -122,27 +122,27 @@ module _ (T : List ℕ) (t : Table T) (x : ℕ) where
       let a = left T v in
       let lt : a < v = left_lt T t v P.pos P.small in
       let less = left_len T t v P.pos P.small h in
-      let top : len T v ≤ 64 = le_of_lt (len-lt T t v P.pos P.small) in
+      let top : len T v ≤ 64 = le_of_lt (len_lt T t v P.pos P.small) in
       record {
         pos = h;
         small = omega (arith, P.small);
         same = share_down (len T a) (len T v) x (key_at T a) (omega arith) top
-            (P.same ∙ sym (rows-own T t v P.pos P.small a (le_refl a)
-            (omega (arith, right-gt T t v P.pos P.small))));
+            (P.same ∙ sym (rows_own T t v P.pos P.small a (le_refl a)
+            (omega (arith, right_gt T t v P.pos P.small))));
       }
 
   pub right_on : (v : ℕ) → OnPath T x v → right T v < length T → OnPath T x (right T v)
   right_on v P h =
       let b = right T v in
-      let gt : v < b = right-gt T t v P.pos P.small in
+      let gt : v < b = right_gt T t v P.pos P.small in
       let less = right_len T t v P.pos P.small h in
-      let top : len T v ≤ 64 = le_of_lt (len-lt T t v P.pos P.small) in
+      let top : len T v ≤ 64 = le_of_lt (len_lt T t v P.pos P.small) in
       let pos : 0 < b = omega arith in
       record {
         pos = pos;
         small = h;
         same = share_down (len T b) (len T v) x (key_at T (b - 1)) (omega arith) top
-            (P.same ∙ sym (rows-own T t v P.pos P.small (b - 1)
+            (P.same ∙ sym (rows_own T t v P.pos P.small (b - 1)
             (omega (arith, left_lt T t v P.pos P.small)) (omega arith)))
             ∙ neighbours T t b pos h;
       }
@@ -154,9 +154,9 @@ module _ (T : List ℕ) (t : Table T) (x : ℕ) where
       let b = right T v in
       let L = len T m in
       let lt : a < v = left_lt T t v P.pos P.small in
-      let gt : v < b = right-gt T t v P.pos P.small in
+      let gt : v < b = right_gt T t v P.pos P.small in
       let fit : b ≤ length T = right_le T t v P.pos P.small in
-      let topv : len T v ≤ 64 = le_of_lt (len-lt T t v P.pos P.small) in
+      let topv : len T v ≤ 64 = le_of_lt (len_lt T t v P.pos P.small) in
       let topm : L ≤ 64 = omega arith in
       let vs : v < length T = P.small in
       let mp : 0 < m = Q.pos in
@@ -169,30 +169,30 @@ module _ (T : List ℕ) (t : Table T) (x : ℕ) where
             let pos : 0 < a = omega arith in
             let one = between T t L (m - 1) (a - 1) v (omega arith) (omega arith) vs (near ∙ meet) in
             let two = between T t L (m - 1) a v (omega arith) (omega arith) vs (near ∙ meet) in
-            let shared = (len-iff T t a pos (omega arith) L topm).1 (one ∙ sym two) in
+            let shared = (len_iff T t a pos (omega arith) L topm).1 (one ∙ sym two) in
             omega (arith, parent_left T v pos))
         | no g ↦ elim (dec_le b m) [
           | yes k ↦ (
               let one = between T t L v (b - 1) m (omega arith) (omega arith) ms (sym meet) in
               let two = between T t L v b m (omega arith) k ms (sym meet) in
               let small : b < length T = omega arith in
-              let shared = (len-iff T t b (omega arith) small L topm).1 (one ∙ sym two) in
+              let shared = (len_iff T t b (omega arith) small L topm).1 (one ∙ sym two) in
               omega (arith, parent_right T v small))
           | no k ↦ (
-              let one = rows-own T t v P.pos vs (m - 1) (omega arith) (omega arith) in
-              let two = rows-own T t v P.pos vs m (omega arith) (omega arith) in
-              absurd (omega (arith, (len-iff T t m mp ms (len T v) topv).1 (one ∙ sym two))))
+              let one = rows_own T t v P.pos vs (m - 1) (omega arith) (omega arith) in
+              let two = rows_own T t v P.pos vs m (omega arith) (omega arith) in
+              absurd (omega (arith, (len_iff T t m mp ms (len T v) topv).1 (one ∙ sym two))))
         ]
       ]
 
   -- W1: below a node, the split with the least length from the probe f on has its handle at f
   module _ (node upper v : ℕ) (N : OnPath T x node) (P : OnPath T x v) where
-    pub handle-at : let f = probe_at (len T node) upper in suc (len T node) < upper → upper ≤ 64 → f ≤ len T v
+    pub handle_at : let f = probe_at (len T node) upper in suc (len T node) < upper → upper ≤ 64 → f ≤ len T v
         → len T v < upper
         → ((m : ℕ) → OnPath T x m → f ≤ len T m → len T v ≤ len T m)
         → (handle_item T v ≡ prefix_item x f) × (v ≡ root T → ⊥)
     unfolding handle_item handle_len
-    handle-at room top reach short least =
+    handle_at room top reach short least =
         let lo = len T node in
         let f = probe_at (len T node) upper in
         let q = parent_len T v in

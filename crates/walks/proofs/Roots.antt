@@ -10,7 +10,7 @@ use Rattle.words.specs.Keys.{first_bits, shared_bits}
 use Rattle.words.proofs.Sharing.{shared_iff}
 use Rattle.tables.specs.Tables.{key_at, Table, shared_with, shared_by_all}
 use Rattle.splits.specs.Splits.{len, root}
-use Rattle.splits.proofs.Rows.{len-lt, len-iff}
+use Rattle.splits.proofs.Rows.{len_lt, len_iff}
 use Rattle.splits.proofs.Parents.{root_pos, root_lt, root_all}
 
 -- x shares L bits with all of the keys exactly if it shares them with each
@@ -53,11 +53,11 @@ root_shared T t two =
     let L = len T r in
     let pos : 0 < r = root_pos T two in
     let small : r < length T = root_lt T two in
-    let short : L < 64 = len-lt T t r pos small in
+    let short : L < 64 = len_lt T t r pos small in
     let some : 0 < length T = omega arith in
     let least : L ≤ shared_by_all T =
     all_by L T t some (le_of_lt short) (λ i h. root_all T t 0 some two ∙ sym (root_all T t i h two)) in
     let no : ¬ (L < shared_by_all T) = λ g. (
     let all = by_all (suc L) T t some short g in
-    omega (arith, (len-iff T t r pos small (suc L) short).1 (sym (all (r - 1) (omega arith)) ∙ all r small))) in
+    omega (arith, (len_iff T t r pos small (suc L) short).1 (sym (all (r - 1) (omega arith)) ∙ all r small))) in
     omega arith

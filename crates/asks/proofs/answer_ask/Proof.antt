@@ -3,7 +3,7 @@
 use mathlib.Core.Path.{ap, sym, ◌∙◌}
 use borrow.Author.Rules.{rules}
 use Rattle.callask.specs.Ask.{said_by_call}
-use Rattle.asks.proofs.Asking.{neighbour_refused, call-refused, ask-said}
+use Rattle.asks.proofs.Asking.{neighbour_refused, call_refused, ask_said}
 use Rattle.asks.proofs.answer_ask.Statement.{statement}
 use Rattle.asks.proofs.answer_ask.Tie as tie
 
@@ -22,7 +22,7 @@ returns-2 c =
     let k = c.before in
     let p = k.before.before in
     absurd
-    (call-refused (start p).requires.0 (start p).args.x (start p).args.bytes.now (start p).requires.1 c.in_default-call_ask.field-0
+    (call_refused (start p).requires.0 (start p).args.x (start p).args.bytes.now (start p).requires.1 c.in_default-call_ask.field-0
     (sym (ap said_by_call c.in_default-call_ask.is) ∙ k.call_ask.ensures))
 
 returns-3 : tie.Need-returns
@@ -33,7 +33,7 @@ returns-3 c =
     let p = k.before.before in
     let a = (start p).args in
     rw
-    (ask-said (start p).requires.0 a.x a.bytes.now (start p).requires.1 k.in-At.place _ w.called.result
+    (ask_said (start p).requires.0 a.x a.bytes.now (start p).requires.1 k.in-At.place _ w.called.result
     (rw k.in-At.is at p.neighbour_ask.ensures)
     (sym (ap said_by_call o.in-Told.is) ∙ k.call_ask.ensures) w.called.ensures)
     w.write_ask.ensures

@@ -10,9 +10,9 @@ use Rattle.digits.specs.Texts.{Writes}
 use Rattle.digits.specs.declared.Next.TheVariants.{At}
 use Rattle.digits.proofs.Placing.{writes_length}
 use Rattle.lines.specs.Lines.{texts}
-use Rattle.lines.proofs.Putting.{put-start}
+use Rattle.lines.proofs.Putting.{put_start}
 use Rattle.asks.specs.Asks.{ask_lines}
-use Rattle.asks.proofs.Printing.{prints_off, next-off, next-at, all_at}
+use Rattle.asks.proofs.Printing.{prints_off, next_off, next_at, all_at}
 use Rattle.asks.proofs.answer_asks.Statement.{statement}
 use Rattle.asks.proofs.answer_asks.Tie as tie
 
@@ -39,7 +39,7 @@ returns c =
 loop-holds : tie.Need-loop-k-init invariant-loop decreases-loop
 loop-holds c =
     let a = c.args in
-    (put-start (ask_lines a.keys.now) a.asks.now a.out.now a.i (omega arith), omega arith)
+    (put_start (ask_lines a.keys.now) a.asks.now a.out.now a.i (omega arith), omega arith)
 
 answer-ask-requires : tie.Need-answer_ask-requires invariant-loop decreases-loop
 answer-ask-requires c κs = (start c.before.before.before).requires
@@ -60,7 +60,7 @@ returns-2 c =
     let p = w.before.before.before.before in
     let a = (start p).args in
     let l = p.loop-k in
-    next-off (ask_lines a.keys.now) a.asks.now a.out.now a.i l.k l.at l.out (omega arith)
+    next_off (ask_lines a.keys.now) a.asks.now a.out.now a.i l.k l.at l.out (omega arith)
     l.invariant.0 (after w) (rw c.in_default.is at w.answer_ask.ensures)
 
 -- no slice has so many asks
@@ -76,7 +76,7 @@ loop-again c =
     let p = w.before.before.before.before in
     let a = (start p).args in
     let l = p.loop-k in (
-      next-at (ask_lines a.keys.now) a.asks.now a.out.now a.i l.k l.at l.out (omega arith)
+      next_at (ask_lines a.keys.now) a.asks.now a.out.now a.i l.k l.at l.out (omega arith)
           l.invariant.0 (after w)
           c.in-At.j (rw c.in-At.is at w.answer_ask.ensures),
       omega arith,

@@ -6,7 +6,7 @@ use native.Mathlib.Omega.{arith}
 use lib.ListN.{length}
 use Rattle.tables.specs.Delimiters.{delimiters}
 use Rattle.splits.specs.Splits.{right}
-use Rattle.splits.proofs.Rows.{right-gt, right_le}
+use Rattle.splits.proofs.Rows.{right_gt, right_le}
 use Rattle.splits.proofs.Jumping.{goes_split, right_turn, right_stop}
 use Rattle.bounds.proofs.jump_right.Statement.{statement}
 use Rattle.bounds.proofs.jump_right.Tie as tie
@@ -22,7 +22,7 @@ loop-holds c =
     let s = c.before.before.before in
     let split = s.requires.0.split in
     let T = delimiters s.args.b s.args.keys.now in
-    omega (arith, right-gt T s.requires.0.table s.args.m split.pos split.small)
+    omega (arith, right_gt T s.requires.0.table s.args.m split.pos split.small)
 
 goes-on-right-requires : tie.Need-goes_on_right-requires invariant-loop decreases-loop
 goes-on-right-requires c κs = (c.requires.1, omega arith)

@@ -4,7 +4,7 @@ use Rattle.tables.specs.Delimiters.{delimiters}
 use Rattle.walks.specs.Walk.{probe_at, stored_length}
 use Rattle.descent.specs.Inner.{handle_value}
 use Rattle.walks.proofs.Descending.{accepted_means}
-use Rattle.descent.proofs.Steps.{probe_is, stepped-to, stepped-under}
+use Rattle.descent.proofs.Steps.{probe_is, stepped_to, stepped_under}
 use Rattle.descent.proofs.probe.Statement.{statement}
 use Rattle.descent.proofs.probe.Tie as tie
 
@@ -41,7 +41,7 @@ returns c =
     let a = p.args in
     let T = delimiters a.b a.keys.now in
     let ok = sym c.accepts.ensures ∙ c.if-accepts.true in
-    stepped-to T (stored_length a.lengths.now) a.x
+    stepped_to T (stored_length a.lengths.now) a.x
     (handle_value a.b a.keys.now a.handles.now a.seed3 a.x) a.node (a.last + 1)
     p.probe_length-f.result p.look_up-m.result (at p) (found p) _
     a.last (omega arith) refl ok
@@ -53,7 +53,7 @@ returns-2 c =
     let a = s.args in
     let T = delimiters a.b a.keys.now in
     let fails = sym c.accepts.ensures ∙ c.if-accepts.false in
-    stepped-under T (stored_length a.lengths.now) a.x
+    stepped_under T (stored_length a.lengths.now) a.x
     (handle_value a.b a.keys.now a.handles.now a.seed3 a.x) a.node (a.last + 1)
     p.probe_length-f.result p.look_up-m.result (at p) (found p) a.lower
     (p.probe_length-f.result - 1)

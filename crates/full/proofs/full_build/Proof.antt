@@ -1,7 +1,7 @@
 -- `full::full_build` meets its contract: refusals 1 to 4 in their order change nothing, then both indexes are built.
 -- Assumes nothing.
 use borrow.Author.Rules.{rules}
-use Rattle.verdicts.proofs.Refusing.{limit_refuses, within-limits, judge-refuses, judge-passes}
+use Rattle.verdicts.proofs.Refusing.{limit_refuses, within_limits, judge_refuses, judge_passes}
 use Rattle.full.proofs.full_build.Statement.{statement}
 use Rattle.full.proofs.full_build.Tie as tie
 
@@ -16,7 +16,7 @@ passed j = j.before.before
 full-sizes-requires : tie.Need-full_sizes-want-requires
 full-sizes-requires c κs =
     let l = c.before in
-    within-limits (keys-known l).args.keys.now _ l.limits.ensures c.in-Passed.is
+    within_limits (keys-known l).args.keys.now _ l.limits.ensures c.in-Passed.is
 
 returns : tie.Need-returns-in-Refused
 returns c = limit_refuses _ _ c.limits.ensures c.in-Refused.is
@@ -25,7 +25,7 @@ returns-2 : tie.Need-returns-in-Refused-judge
 returns-2 c =
     let j = c.before in
     let t = passed j in
-    judge-refuses _ _ t.limits.ensures t.in-Passed.is j.full_sizes-want.ensures
+    judge_refuses _ _ t.limits.ensures t.in-Passed.is j.full_sizes-want.ensures
     j.judge.ensures c.in-Refused-judge.is
 
 build-all-requires : tie.Need-build_all-requires
@@ -34,7 +34,7 @@ build-all-requires c κs =
     let j = e.before in
     let t = passed j in
     let l = t.before in
-    judge-passes _ _ l.limits.ensures t.in-Passed.is j.full_sizes-want.ensures j.judge.ensures
+    judge_passes _ _ l.limits.ensures t.in-Passed.is j.full_sizes-want.ensures j.judge.ensures
     e.in-Passed-judge.is (λ i h. ((keys-known l).shared_slice_known-1.given i).fits)
 
 pub full_build_spec : {M : Type 1} → statement M

@@ -3,7 +3,7 @@
 use native.Mathlib.Omega.{arith}
 use mathlib.Core.Path.{◌≡◌}
 use Rattle.digits.proofs.Hexes.{hex_start, hex_step, hex_below, hex_fits}
-use Rattle.digits.proofs.Hexes.{hex_short, hex_none, hex_open, hex-over, hex-value-is}
+use Rattle.digits.proofs.Hexes.{hex_short, hex_none, hex_open, hex_over, hex_value_is}
 use Rattle.hexdigits.proofs.read_hex.Goals as goal
 
 pub returns-then-s-i : goal.returns-then-s-i
@@ -48,11 +48,11 @@ pub returns-then-most-v : goal.returns-then-most-v
 returns-then-most-v c =
     let l = c.before.before.before.before.loop-k in
     let e : l.k ≡ 16 = omega arith in
-    hex-over _ _ _ _ _ (omega arith) (rw e at l.invariant.2) (rw e at l.invariant.1) c.before.if-s-i-2.false c.if-most-v.true
+    hex_over _ _ _ _ _ (omega arith) (rw e at l.invariant.2) (rw e at l.invariant.1) c.before.if-s-i-2.false c.if-most-v.true
 
 pub returns : goal.returns
 returns c =
     let l = c.before.before.before.before.loop-k in
     let e : l.k ≡ 16 = omega arith in
-    hex-value-is _ _ _ _ _ (omega arith) (rw e at l.invariant.2) (rw e at l.invariant.1) c.before.if-s-i-2.false
+    hex_value_is _ _ _ _ _ (omega arith) (rw e at l.invariant.2) (rw e at l.invariant.1) c.before.if-s-i-2.false
     c.if-most-v.false

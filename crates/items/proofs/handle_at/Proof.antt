@@ -3,7 +3,7 @@ use mathlib.Core.Path.{◌≡◌, ◌∙◌}
 use native.Mathlib.Omega.{arith}
 use Rattle.tables.specs.Delimiters.{delimiters}
 use Rattle.splits.specs.Splits.{handle_split}
-use Rattle.items.proofs.Handling.{delimiters_few, split-beside, split-bounded}
+use Rattle.items.proofs.Handling.{delimiters_few, split_beside_told, split_bounded}
 use Rattle.items.proofs.handle_at.Statement.{statement}
 use Rattle.items.proofs.handle_at.Tie as tie
 
@@ -12,7 +12,7 @@ split : (c : tie.After-split_at) → let a = c.args in
 split c =
     let s = c.before.before.before.before in
     c.split_at.ensures
-    ∙ split-beside s.args.b s.args.keys.now s.args.left.now s.args.right.now s.requires.0
+    ∙ split_beside_told s.args.b s.args.keys.now s.args.left.now s.args.right.now s.requires.0
     s.args.i s.requires.1
 
 split-at-requires : tie.Need-split_at-requires
@@ -25,7 +25,7 @@ handle-item-requires : tie.Need-handle_item-requires
 handle-item-requires c κs =
     let s = c.before.before.before.before in
     let bounded =
-    split-bounded s.args.b s.args.keys.now s.args.left.now s.args.right.now s.requires.0
+    split_bounded s.args.b s.args.keys.now s.args.left.now s.args.right.now s.requires.0
     s.args.i s.requires.1 in
     rw (split c) bounded
 

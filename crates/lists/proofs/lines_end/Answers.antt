@@ -3,14 +3,14 @@
 use native.Mathlib.Omega.{arith}
 use mathlib.Core.Path.{◌≡◌}
 use Rattle.lines.proofs.Lining.{line_unique}
-use Rattle.lines.proofs.Listing.{lined_start, lined_outside, lined-more, lined-bad}
+use Rattle.lines.proofs.Listing.{lined_start, lined_outside, lined_more, lined_bad}
 use Rattle.lists.proofs.lines_end.Goals as goal
 
 pub returns-in-Bad : goal.returns-in-Bad
 returns-in-Bad c =
     let p = c.before.before.before in
     let a = p.args in
-    lined-bad _ _ _ _ _ _ _ (line_unique a.kind a.tag.now a.most (omega arith)) (omega arith)
+    lined_bad _ _ _ _ _ _ _ (line_unique a.kind a.tag.now a.most (omega arith)) (omega arith)
     p.loop-k.invariant.1
     (rw c.in-Bad.is at c.read_line.ensures)
 
@@ -18,7 +18,7 @@ pub loop-k-preserved : goal.loop-k-preserved
 loop-k-preserved c =
     let p = c.before.before.before in
     let reads = rw c.in-Value.is at c.read_line.ensures in
-    (omega arith, lined-more _ _ _ _ _ _ _ _ p.loop-k.invariant.1 reads)
+    (omega arith, lined_more _ _ _ _ _ _ _ _ p.loop-k.invariant.1 reads)
 
 pub returns : goal.returns
 returns c =

@@ -8,7 +8,7 @@ use lib.ListN.{length}
 use Rattle.digits.specs.declared.Next.TheVariants.{At}
 use Rattle.lines.specs.Lines.{line, Loads}
 use Rattle.lines.proofs.Lining.{line_unique}
-use Rattle.lines.proofs.Listing.{loads_start, loads_small, loads_outside, loads-length, loads-more, loads-bad}
+use Rattle.lines.proofs.Listing.{loads_start, loads_small, loads_outside, loads_length, loads_more, loads_bad}
 use Rattle.lists.proofs.load_u64.Statement.{statement}
 use Rattle.lists.proofs.load_u64.Tie as tie
 
@@ -25,7 +25,7 @@ start p = p.before.before.before.before.before.before
 
 -- the slice keeps its length
 kept : (p : tie.At-loop-k invariant-loop decreases-loop) → length p.loop-k.out ≡ length (start p).args.out.now
-kept p = loads-length _ _ _ _ _ _ _ _ p.loop-k.invariant.1
+kept p = loads_length _ _ _ _ _ _ _ _ p.loop-k.invariant.1
 
 returns-3 : tie.Need-returns-in-Bad invariant-loop decreases-loop
 returns-3 c =
@@ -33,13 +33,13 @@ returns-3 c =
     let a = (start p).args in
     let u = line_unique a.kind a.tag.now a.most (omega arith) in
     let reads = rw c.in-Bad.is at c.read_line.ensures in
-    loads-bad _ _ _ _ _ _ _ _ _ u (omega arith) (omega arith) p.loop-k.invariant.1 reads
+    loads_bad _ _ _ _ _ _ _ _ _ u (omega arith) (omega arith) p.loop-k.invariant.1 reads
 
 loop-again : tie.Need-loop-k-preserved invariant-loop decreases-loop
 loop-again c =
     let l = c.loop-k in
     let reads = rw c.in-Value.is at c.read_line.ensures in
-    (omega arith, loads-more _ _ _ _ _ _ _ _ c.in-Value.value _ (omega arith) l.invariant.1 reads)
+    (omega arith, loads_more _ _ _ _ _ _ _ _ c.in-Value.value _ (omega arith) l.invariant.1 reads)
 
 returns-4 : tie.Need-returns invariant-loop decreases-loop
 returns-4 c =

@@ -1,20 +1,20 @@
 -- `lists::room_u16` meets its contract. The loop's invariant: `left` is what k lines leave of the room. The
 -- measure is how many lines are left. Assumes nothing.
 use native.Mathlib.Omega.{arith}
-use Rattle.lines.proofs.Putting.{room_start, room-off, room-more, room_end}
+use Rattle.lines.proofs.Putting.{room_start, room_off, room_more, room_end}
 use Rattle.lists.proofs.room_u16.Goals as goal
 
 pub returns-then-left-w : goal.returns-then-left-w
 returns-then-left-w c =
     let t = c.before.before.before in
-    room-off _ _ _ _ _ _ t.loop-k-test.true t.loop-k.invariant.1 c.line_length-w.ensures.0
+    room_off _ _ _ _ _ _ t.loop-k-test.true t.loop-k.invariant.1 c.line_length-w.ensures.0
     c.if-left-w.true
 
 pub loop-k-preserved : goal.loop-k-preserved
 loop-k-preserved c =
     let t = c.before.before.before in
     let w = c.line_length-w.ensures.0 in
-    (omega arith, room-more _ _ _ _ _ _ t.loop-k-test.true t.loop-k.invariant.1 w c.if-left-w.false)
+    (omega arith, room_more _ _ _ _ _ _ t.loop-k-test.true t.loop-k.invariant.1 w c.if-left-w.false)
 
 pub loop-k-init : goal.loop-k-init
 loop-k-init c = (omega arith, room_start _ c.args.xs.now _)

@@ -7,7 +7,7 @@ use Rattle.jams.specs.Inner.Work.{turn_item}
 use Rattle.counts.specs.Inner.{AtTurn}
 use Rattle.jams.proofs.Puts.{touch_below}
 use Rattle.counts.proofs.Finding.{touches_as, put_as}
-use Rattle.jams.proofs.Peeling.{turn_counted, taken, taken-seen}
+use Rattle.jams.proofs.Peeling.{turn_counted, taken, taken_seen}
 use Rattle.peels.proofs.Trying.{next_turn, try_at, seen_three}
 use borrow.Author.Rules.{rules}
 use Rattle.peels.proofs.take_turn.Statement.{statement}
@@ -104,7 +104,7 @@ returns c =
     let R = put_as found k0.take_item.ensures in
     record {
       turn = next_turn A k3.try_cell.auto.work (T3.peeled _ _ A.peeled);
-      seen = seen_three found T1 T2 T3 (λ k l h. taken-seen s.requires.0.peeled s.requires.2 R k l h (s.requires.1 k l));
+      seen = seen_three found T1 T2 T3 (λ k l h. taken_seen s.requires.0.peeled s.requires.2 R k l h (s.requires.1 k l));
       beyond = λ k l.
           T3.beyond k (omega arith) ∙ T2.beyond k (omega arith) ∙ T1.beyond k (omega arith)
           ∙ sym (R.rest k (omega arith));

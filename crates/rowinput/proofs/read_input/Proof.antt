@@ -8,7 +8,7 @@ use Rattle.lines.specs.Lines.{line}
 use Rattle.lines.specs.declared.Kind.TheVariants.{Decimal}
 use Rattle.rowinput.specs.Input.{ReadsInput}
 use Rattle.rowinput.specs.Inner.{ListAt, LoadsList}
-use Rattle.rowinput.proofs.Scanning.{no_bucket, no_keys, no-asks, no_end, taken}
+use Rattle.rowinput.proofs.Scanning.{no_bucket, no_keys, no_asks, no_end, taken}
 use Rattle.rowinput.proofs.read_input.Statement.{statement}
 use Rattle.rowinput.proofs.read_input.Tie as tie
 
@@ -63,7 +63,7 @@ returns-3 c =
     let n = at-keys q in
     let p = call-keys n in
     let none = rw c.in_default-load_list-2.is at q.load_list-2.ensures in
-    let no-input = no-asks _ _ _ _ _ (bucket-read (at-bucket p)) _ _ _ _ (keys_read n) none in
+    let no-input = no_asks _ _ _ _ _ (bucket-read (at-bucket p)) _ _ _ _ (keys_read n) none in
     (refl, no-input, p.load_list.auto.out, q.load_list-2.auto.out)
 
 returns-4 : tie.Need-returns-then-last-s

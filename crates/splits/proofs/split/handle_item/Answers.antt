@@ -3,9 +3,9 @@
 use mathlib.Core.Path.{◌∙◌}
 use native.Mathlib.Omega.{arith}
 use Rattle.tables.specs.Delimiters.{delimiters}
-use Rattle.splits.proofs.Rows.{len-lt}
+use Rattle.splits.proofs.Rows.{len_lt}
 use Rattle.splits.proofs.Parents.{parent_shorter}
-use Rattle.splits.proofs.Handles.{handle-by}
+use Rattle.splits.proofs.Handles.{handle_by}
 use Rattle.splits.proofs.split.handle_item.Goals as goal
 
 pub fattest-f-requires : goal.fattest-f-requires
@@ -17,7 +17,7 @@ fattest-f-requires c =
     omega (
       arith,
       parent_shorter T table s.args.m split.pos split.small s.requires.1,
-      len-lt T table s.args.m split.pos split.small,
+      len_lt T table s.args.m split.pos split.small,
     )
 
 pub prefix_item-requires : goal.prefix_item-requires
@@ -27,7 +27,7 @@ prefix_item-requires c =
     omega (
       arith,
       c.fattest-f.ensures.within,
-      len-lt (delimiters s.args.b s.args.keys.now) s.requires.0.rising.table s.args.m split.pos
+      len_lt (delimiters s.args.b s.args.keys.now) s.requires.0.rising.table s.args.m split.pos
           split.small,
     )
 
@@ -40,5 +40,5 @@ returns c =
     rw (c.parent_len-q.ensures, c.len_at-l.ensures) at
     f.ensures in
     rw c.delimiter_at.ensures at c.prefix_item.ensures
-    ∙ handle-by (delimiters s.args.b s.args.keys.now) s.requires.0.rising.table s.args.m split.pos
+    ∙ handle_by (delimiters s.args.b s.args.keys.now) s.requires.0.rising.table s.args.m split.pos
     split.small s.requires.1 f.result F
