@@ -18,6 +18,7 @@ HEAD = re.compile(r'(?m)^ *(?:(?:abbrev|unfoldable|pub|data|record|pattern) )*([
 CAMEL = re.compile(r"[a-z0-9₀-₉][A-Z]")
 COMMENT = re.compile(r"(?<!\S)--[^\n]*")
 SPAN = re.compile(r"`[^`\n]*`")
+OF_A_FUNCTION = re.compile(r"/proofs/.+/(Proof|Answers|Invariants)\.antt$")
 # Names that the rule alone would bring together with another name of the same file.
 OTHER = {
     "all-below": "all_below_each",
@@ -62,7 +63,7 @@ def table():
     """Old names, each with its new one."""
     rows = {}
     for path in texts(".antt"):
-        if path.endswith(("/Proof.antt", "/Answers.antt", "/Invariants.antt")):
+        if OF_A_FUNCTION.search(path):
             continue
         for found in HEAD.finditer(read(path)):
             old = found[1]
