@@ -1,7 +1,7 @@
 #!/usr/bin/env python3
 """Spells the repository's own definitions and lemmas as today's Rattle spells its own: words in snake case, types and modules in camel case.
 
-usage: tools/respell.py            at the top of the repository, once, after /opt/rattle/port/port.py
+usage: tools/respell.py            at the top of the repository, once, after the kit's port.py
        tools/respell.py --check    lists names that would fall together, and changes nothing. (A function of src/ may be called as a definition is.)
 
 A name turns that specs/ or a law file of proofs/ declares: `bucketEnd` to `bucket_end`, `drop-more` to `drop_more`. Functions of src/, strings, inputs and outputs
