@@ -25,6 +25,7 @@ fn widen(x: u16) -> usize
 }
 
 // The row in which the rule finds x, for stores and tables of any content. No row byte is asked for that.
+#[tactic(auto, using(crate::proofs::Asking::rule_long))]
 fn row_of(keys: &[u64], b: usize, seed1: u64, seed2: u64, cells: &[u16], x: u64) -> Located
     requires { Askable keys.now b cells.now }
     ensures { result ≡ rule_says keys.now b seed1 seed2 cells.now x }

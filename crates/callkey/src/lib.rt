@@ -35,6 +35,7 @@ pub enum Unpacked {
 }
 
 // The key of four fields, or refusal 7 where one is over its largest value.
+#[tactic(auto, unfolding(crate::specs::CallKeys::pack_says))]
 pub fn pack(day: u32, stop: u32, second: u32, block: u32) -> Packed
     ensures { said_by_packer result ≡ pack_says day stop second block }
 {
@@ -55,6 +56,7 @@ pub fn pack(day: u32, stop: u32, second: u32, block: u32) -> Packed
 }
 
 // The fields of a key, or refusal 7 where its second is too large: the other fields have no room to be.
+#[tactic(auto, unfolding(crate::specs::CallKeys::unpack_says))]
 pub fn unpack(key: u64) -> Unpacked
     ensures { said_by_unpacker result ≡ unpack_says key }
 {

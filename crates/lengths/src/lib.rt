@@ -21,6 +21,7 @@ fn length_byte(keys: &[u64], b: usize, m: usize) -> u8
 }
 
 // Fills `lengths`: an entry for each row, and nothing beyond. Row 0 is no split, and its entry is 0.
+#[tactic(auto, using(splits::proofs::Stores::wrote_nothing))]
 pub fn build_lengths(keys: &[u64], b: usize, lengths: &mut [u8])
     requires { Bucketed b keys.now × (length (delimiters b keys.now) ≤ length lengths.old) }
     ensures { lengths.new ≡ length_store (delimiters b keys.now) lengths.old }

@@ -41,6 +41,7 @@ fn try_seed(
 }
 
 // Tries seeds 0, 1, .. 255. Only a jam goes on to the next: any other refusal is the table's.
+#[tactic(auto, using(crate::proofs::Seeding::last_jam), unfolding(crate::specs::Inner::SeedTried, crate::specs::Inner::Chose))]
 pub fn first_seed(
     keys: &[u64],
     b: usize,

@@ -7,14 +7,8 @@ use lib.ListN.{length, take, drop, length-drop}
 use lib.Seq.{take_all}
 use Rattle.cells.specs.Cells.{cell_count}
 use Rattle.outcomes.specs.Outcomes.{row_says}
-use Rattle.callask.proofs.Asking.{row_fits, rule_long, rule_row_told}
+use Rattle.callask.proofs.Asking.{row_fits, rule_row_told}
 use Rattle.callask.proofs.row_of.Goals as goal
-
-pub returns-then-length-gt63 : goal.returns-then-length-gt63
-returns-then-length-gt63 c =
-    let s = c.before.before.before.before in
-    rule_long s.args.keys.now s.args.b s.args.seed1 s.args.seed2 s.args.cells.now s.args.x
-    c.look_up-value.result c.look_up-value.ensures (omega (arith, c.if-length-gt63.true))
 
 pub overflow_mul-widen : goal.overflow_mul-widen
 overflow_mul-widen c =

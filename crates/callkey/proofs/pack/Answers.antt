@@ -17,16 +17,6 @@ returns-then-stop-gt65535 c =
     let a = c.before.before.args in
     rw (le-ltb (2 ^ 16 - 1) a.day (omega arith), lt-ltb (2 ^ 16 - 1) a.stop (omega arith))
 
-pub returns-then-second-gt-LAST_SECOND : goal.returns-then-second-gt-LAST_SECOND
-unfolding pack_says
-returns-then-second-gt-LAST_SECOND c =
-    let a = c.before.before.before.args in
-    rw (
-      le-ltb (2 ^ 16 - 1) a.day (omega arith),
-      le-ltb (2 ^ 16 - 1) a.stop (omega arith),
-      lt-ltb last_second a.second (omega arith),
-    )
-
 pub returns-then-block-gt32767 : goal.returns-then-block-gt32767
 unfolding pack_says
 returns-then-block-gt32767 c =

@@ -2,13 +2,9 @@
 use Prim.Native.Nat.{◌/◌, ◌%◌, ◌^◌}
 use native.Mathlib.Nat.{div-one}
 use native.Mathlib.Omega.{arith}
-use borrow.Author.Tests.{lt-ltb, le-ltb}
+use borrow.Author.Tests.{le-ltb}
 use Rattle.callkey.specs.CallKeys.{last_second, unpack_says}
 use Rattle.callkey.proofs.unpack.Goals as goal
-
-pub returns-then-second-gt-LAST_SECOND : goal.returns-then-second-gt-LAST_SECOND
-unfolding unpack_says
-returns-then-second-gt-LAST_SECOND c = rw (lt-ltb last_second (c.before.args.key % 2 ^ 48 % 2 ^ 32 / 2 ^ 15) (omega arith))
 
 pub returns : goal.returns
 unfolding unpack_says

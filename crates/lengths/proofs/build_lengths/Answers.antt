@@ -6,14 +6,8 @@ use lib.ListN.{length, length-set}
 use Rattle.tables.specs.Delimiters.{delimiters}
 use Rattle.splits.specs.Splits.{length_entry}
 use Rattle.splits.proofs.Parents.{length_first, length_split}
-use Rattle.splits.proofs.Stores.{wrote_none, wrote_up, wrote_first, wrote_nothing}
+use Rattle.splits.proofs.Stores.{wrote_none, wrote_up, wrote_first}
 use Rattle.lengths.proofs.build_lengths.Goals as goal
-
-pub returns-then-n-eq0 : goal.returns-then-n-eq0
-returns-then-n-eq0 c =
-    let a = c.args in
-    let T = delimiters a.b a.keys.now in
-    wrote_nothing (length T) (length_entry T) a.lengths.now (omega arith)
 
 pub loop-m-init : goal.loop-m-init
 loop-m-init c =

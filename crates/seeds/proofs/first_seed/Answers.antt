@@ -3,7 +3,6 @@
 use borrow.Author.Count.{below_more}
 use native.Mathlib.Omega.{arith}
 use Rattle.seeds.specs.Inner.{Jams, SeedTried, Chose}
-use Rattle.seeds.proofs.Seeding.{last_jam}
 use Rattle.seeds.proofs.first_seed.Goals as goal
 
 pub loop-refusal-init : goal.loop-refusal-init
@@ -16,13 +15,6 @@ returns-in-Taken c = (omega arith, c.loop-refusal.invariant.0, rw c.in-Taken.is 
 pub returns-in-Refused : goal.returns-in-Refused
 unfolding SeedTried Chose
 returns-in-Refused c = rw c.in-Refused.is at c.try_seed.ensures
-
-pub returns-then-seed-eq255 : goal.returns-then-seed-eq255
-unfolding SeedTried Chose
-returns-then-seed-eq255 c =
-    let jam : Jams c.args.keys.now c.args.b c.loop-refusal.seed c.in-Jammed.map c.in-Jammed.size =
-    rw c.in-Jammed.is at c.try_seed.ensures in
-    last_jam (omega arith) c.loop-refusal.invariant.0 jam
 
 pub loop-refusal-preserved : goal.loop-refusal-preserved
 unfolding SeedTried
