@@ -3,92 +3,63 @@
 // Every function is proved and the crate assumes nothing.
 #![tactic(auto)]
 
-ghost use Rattle.std.specs.Prelude.{◌≡◌, ◌≤◌, length};
+ghost use Rattle.std.specs.Prelude.{◌≡◌};
 ghost use Rattle.digits.specs.Texts.{Writes};
 ghost use Rattle.lines.specs.Lines.{texts};
-ghost use Rattle.stores.specs.Stores.{asked, same};
 ghost use Rattle.outcomes.specs.Outcomes.{told_by};
-ghost use Rattle.index.specs.Answers.{Answers};
 ghost use Rattle.asks.specs.Asks.{ask_lines};
 ghost use Rattle.asks.specs.Inner.{called_of, Prints};
 
-use digits::Next;
-use index::{CallAnswer, NeighbourAnswer, Outcome, call_ask, neighbour_ask};
-use rowoutput::{Called, write_ask};
+pub mod indexes;
+
+use index::{Outcome, call_ask, neighbour_ask};
+use indexes::Indexes;
+use rowoutput::write_ask;
 
 // `call` is the call index's row or none, and a withdrawn run keeps its row.
-fn called(outcome: Outcome) -> Called
+fn called(outcome: Outcome) -> Option<usize>
     ensures { result ≡ called_of (told_by outcome) }
 {
     match outcome {
-        Outcome::Planned(row) => Called::Row(row),
-        Outcome::Withdrawn(row) => Called::Row(row),
-        Outcome::Absent => Called::Absent,
+        Outcome::Planned(row) => Some(row),
+        Outcome::Withdrawn(row) => Some(row),
+        Outcome::Absent => None,
     }
 }
 
-// The four lines of one ask, at position i.
-fn answer_ask(
-    keys: &[u64],
-    bytes: &[u8],
-    b: usize,
-    seed: u64,
-    cells: &[u16],
-    handles: &[u16],
-    left: &[u16],
-    right: &[u16],
-    lengths: &[u8],
-    x: u64,
-    out: &mut [u8],
-    i: usize,
-) -> Next
-    requires { Answers keys.now b (same seed) (asked cells.now handles.now left.now right.now
-        lengths.now) × (length keys.now ≤ length bytes.now) }
-    ensures { Writes (ask_lines keys.now x) out.old i out.new result }
-{
-    let NeighbourAnswer::At(place) = neighbour_ask(keys, seed, handles, left, right, lengths, x)
-    else {
-        return Next::Off;
-    };
-    let CallAnswer::Told(outcome) = call_ask(keys, bytes, b, seed, seed, cells, x) else {
-        return Next::Off;
-    };
-    write_ask(out, i, x, called(outcome), place.before, place.probes)
-}
+impl Indexes<'_> {
+    // The four lines of one ask, at position i.
+    fn answer_ask(&self, x: u64, out: &mut [u8], i: usize) -> Option<usize>
+        ensures { Writes (ask_lines self.now.keys.now x) out.old i out.new result }
+    {
+        let place = neighbour_ask(
+            self.keys,
+            self.seed,
+            self.handles,
+            self.left,
+            self.right,
+            self.lengths,
+            x,
+        )
+        .ok()?;
+        let outcome = call_ask(
+            self.keys, self.bytes, self.b, self.seed, self.seed, self.cells, x,
+        )
+        .ok()?;
+        write_ask(out, i, x, called(outcome), place.before, place.probes)
+    }
 
-// The lines of all asks, from position i on.
-pub fn answer_asks(
-    keys: &[u64],
-    bytes: &[u8],
-    b: usize,
-    seed: u64,
-    cells: &[u16],
-    handles: &[u16],
-    left: &[u16],
-    right: &[u16],
-    lengths: &[u8],
-    asks: &[u64],
-    out: &mut [u8],
-    i: usize,
-) -> Next
-    requires { Answers keys.now b (same seed) (asked cells.now handles.now left.now right.now
-        lengths.now) × (length keys.now ≤ length bytes.now) }
-    ensures { Prints (texts (ask_lines keys.now) asks.now)
-        out.old i out.new result }
-{
-    if out.len() < i {
-        return Next::Off;
+    // The lines of all asks, from position i on.
+    pub fn answer_asks(&self, asks: &[u64], out: &mut [u8], i: usize) -> Option<usize>
+        ensures { Prints (texts (ask_lines self.now.keys.now) asks.now) out.old i out.new result }
+    {
+        if out.len() < i {
+            return None;
+        }
+        let mut at = i;
+        for x in asks {
+            at = self.answer_ask(*x, out, at)?;
+        }
+        Some(at)
     }
-    let mut k = 0;
-    let mut at = i;
-    while k < asks.len() {
-        let Next::At(j) = answer_ask(
-            keys, bytes, b, seed, cells, handles, left, right, lengths, asks[k], out, at,
-        ) else {
-            return Next::Off;
-        };
-        at = j;
-        k += 1;
-    }
-    Next::At(at)
 }

@@ -2,7 +2,7 @@
 // the proved library and its unverified twin can be run by one driver.
 //
 // Every function is proved and the crate assumes nothing. No function has a `requires`: each takes what the entry
-// behind it takes.
+// behind it takes. A usize is widened by `as`, since std has no `From` of it.
 #![tactic(auto)]
 
 ghost use Rattle.std.specs.Prelude.{◌≡◌};
@@ -15,13 +15,11 @@ ghost use Rattle.full.specs.Build.{FullBuilt};
 ghost use Rattle.slimask.specs.Ask.{slim_says};
 ghost use Rattle.slim.specs.Build.{SlimBuilt};
 ghost use Rattle.bench.specs.Codes.{refused_code, build_code, Coded, outcome_code, call_code, neighbour_code};
-ghost use Rattle.bench.specs.Codes.{stands_code, place_code, beside_code, slim_code};
+ghost use Rattle.bench.specs.Codes.{place_code, beside_code, slim_code};
 
-use callask::CallAnswer;
-use neighbour::{NeighbourAnswer, Place};
 use outcomes::Outcome;
-use refusals::{Refusal, Verdict};
-use slimask::SlimAnswer;
+use places::Place;
+use refusals::{Refusal, Unbuilt, Verdict};
 
 fn coded(number: u64, named: u64) -> u64
     ensures { result ≡ refused_code number named }
@@ -32,18 +30,16 @@ fn coded(number: u64, named: u64) -> u64
 fn refused(r: Refusal) -> u64
     ensures { result ≡ refused_code (number r) (names r) }
 {
-    let number = r.number();
-    let named = r.named();
-    coded(number, named)
+    coded(r.number(), r.named())
 }
 
 fn verdict(v: Verdict) -> u64
     ensures { result ≡ build_code (said_by_build v) }
 {
     match v {
-        Verdict::Taken => 0,
-        Verdict::Refused(r) => refused(r),
-        Verdict::Jammed { map, size } => coded(5, map as u64) ^ ((size as u64) << 40),
+        Ok(()) => 0,
+        Err(Unbuilt::Refused(r)) => refused(r),
+        Err(Unbuilt::Jammed(jam)) => coded(5, jam.map as u64) ^ ((jam.size as u64) << 40),
     }
 }
 
@@ -57,19 +53,10 @@ fn outcome(o: Outcome) -> u64
     }
 }
 
-fn flag(stands: bool) -> u64
-    ensures { result ≡ stands_code stands }
-{
-    if stands {
-        return 0x100_0000_0000;
-    }
-    0
-}
-
 fn placed(p: Place) -> u64
     ensures { result ≡ place_code p.before p.probes p.stands }
 {
-    (p.before as u64) ^ ((p.probes as u64) << 32) ^ flag(p.stands)
+    (p.before as u64) ^ ((p.probes as u64) << 32) ^ (u64::from(p.stands) << 40)
 }
 
 // An outcome beside a place.
@@ -96,13 +83,13 @@ pub extern "C" fn index_call_ask(
     ensures { result ≡ call_code
         (call_says keys.now bytes.now b seed1 seed2 cells.now x) }
 {
-    let a = callask::call_ask(keys, bytes, b, seed1, seed2, cells, x);
-    match a {
-        CallAnswer::Told(o) => outcome(o),
-        CallAnswer::Refused(r) => refused(r),
+    match callask::call_ask(keys, bytes, b, seed1, seed2, cells, x) {
+        Ok(o) => outcome(o),
+        Err(r) => refused(r),
     }
 }
 
+#[tactic(auto, unfolding(places::specs::Said::said_by_neighbour))]
 #[unsafe(no_mangle)]
 pub extern "C" fn index_neighbour_ask(
     keys: &[u64],
@@ -117,10 +104,9 @@ pub extern "C" fn index_neighbour_ask(
         (neighbour_says keys.now
         handles.now left.now right.now lengths.now seed3 x) }
 {
-    let a = neighbour::neighbour_ask(keys, seed3, handles, left, right, lengths, x);
-    match a {
-        NeighbourAnswer::At(p) => placed(p),
-        NeighbourAnswer::Refused(r) => refused(r),
+    match neighbour::neighbour_ask(keys, seed3, handles, left, right, lengths, x) {
+        Ok(p) => placed(p),
+        Err(r) => refused(r),
     }
 }
 
@@ -169,12 +155,11 @@ pub extern "C" fn index_slim_ask(
         (asked offsets.now handles.now left.now right.now
         lengths.now) x) }
 {
-    let a = slimask::slim_ask(
+    match slimask::slim_ask(
         keys, bytes, b, seed1, seed3, offsets, handles, left, right, lengths, x,
-    );
-    match a {
-        SlimAnswer::Told(o, p) => beside(o) ^ placed(p),
-        SlimAnswer::Refused(r) => refused(r),
+    ) {
+        Ok(a) => beside(a.outcome) ^ placed(a.place),
+        Err(r) => refused(r),
     }
 }
 

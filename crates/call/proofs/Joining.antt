@@ -3,6 +3,7 @@ use mathlib.Core.Path.{◌≡◌, sym, ap, ◌∙◌}
 use mathlib.Core.List.{List}
 use Prim.Native.Nat.{ℕ, ◌-◌, ◌≤◌}
 use native.Mathlib.Omega.{arith}
+use Rattle.std.specs.Prelude.{Result, Ok}
 use lib.ListN.{length, get_or, take, drop, length-drop, drop_of_length-le}
 use borrow.Rule.Slice.PartMut.{put_mid}
 use lib.Seq.{drop-drop, length-take-le, get_or-take}
@@ -54,10 +55,10 @@ module _ {keys : List ℕ} {b : ℕ} {cells work : List ℕ} (A : Buildable keys
       }
 
   -- what came back stands in the store from cell C(n) on
-  pub prefixes_built : {seed : ℕ} {part work' : List ℕ} {size : ℕ}
+  pub prefixes_built : {seed : ℕ} {part work' : List ℕ} {answer : Result (Unit {0}) ℕ}
       → Built seed (prefix_items b keys) (bucket_numbers b keys)
-      (take (length cells - c) (drop c cells)) work size part work'
-      → PrefixesBuilt keys b seed cells work size (put_mid c (length cells - c) cells part) work'
+      (take (length cells - c) (drop c cells)) work answer part work'
+      → PrefixesBuilt keys b seed cells work answer (put_mid c (length cells - c) cells part) work'
   prefixes_built {part = part} B =
       let fits : c ≤ length cells = omega (arith, A.cells_long) in
       record {
@@ -79,16 +80,16 @@ module _ {keys : List ℕ} {b : ℕ} {cells work : List ℕ} (A : Buildable keys
   few_buckets = buckets_le n b (omega (arith, A.sorted.two))
 
   -- map 1 is built, or jammed, and then map 2
-  module _ {seed₁ : ℕ} {cells₁ work₁ : List ℕ} {size₁ : ℕ}
-      (B₁ : KeysBuilt keys b seed₁ cells work size₁ cells₁ work₁) where
+  module _ {seed₁ : ℕ} {cells₁ work₁ : List ℕ} {answer₁ : Result (Unit {0}) ℕ}
+      (B₁ : KeysBuilt keys b seed₁ cells work answer₁ cells₁ work₁) where
     -- past the named length nothing of the store changes
     pub first_beyond : drop (call_cells n b) cells₁ ≡ drop (call_cells n b) cells
     first_beyond =
         sym (drop-drop (cell_count k) c cells₁) ∙ ap (drop (cell_count k)) (cells_beyond seed₁ keys B₁)
         ∙ drop-drop (cell_count k) c cells
 
-    module _ {seed₂ : ℕ} {cells₂ work₂ : List ℕ} {size₂ : ℕ}
-        (B₂ : PrefixesBuilt keys b seed₂ cells₁ work₁ size₂ cells₂ work₂) where
+    module _ {seed₂ : ℕ} {cells₂ work₂ : List ℕ} {answer₂ : Result (Unit {0}) ℕ}
+        (B₂ : PrefixesBuilt keys b seed₂ cells₁ work₁ answer₂ cells₂ work₂) where
       pub second_beyond : drop (call_cells n b) cells₂ ≡ drop (call_cells n b) cells
       second_beyond =
           sym (drop-drop (cell_count k) c cells₂)
@@ -102,11 +103,14 @@ module _ {keys : List ℕ} {b : ℕ} {cells work : List ℕ} (A : Buildable keys
           let less : w ≤ call_work n = rw (length_prefixes b keys) (fewer_work k n few_buckets) in
           B₂.part.swept ∙ ap (cleared w) B₁.swept ∙ cleared_within w (call_work n) work less
 
-      pub both_filled : size₁ ≡ 0 → size₂ ≡ 0 → CallFilled keys b seed₁ seed₂ cells cells₂
-      both_filled h₁ h₂ =
-          let F = (B₁.accepted h₁).1 in
-          let long : c ≤ length cells = omega (arith, A.cells_long) in
-          record {
-            map₁ = rw B₂.kept (filled_part seed₁ keys (key_values b keys) cells cells₁ long F);
-            map₂ = rw F.beyond at (B₂.part.accepted h₂).1;
-          }
+  -- both are built
+  pub both_filled : {seed₁ seed₂ : ℕ} {cells₁ work₁ cells₂ work₂ : List ℕ}
+      → KeysBuilt keys b seed₁ cells work (Ok tt) cells₁ work₁
+      → PrefixesBuilt keys b seed₂ cells₁ work₁ (Ok tt) cells₂ work₂ → CallFilled keys b seed₁ seed₂ cells cells₂
+  both_filled {seed₁} {cells₁ = cells₁} B₁ B₂ =
+      let F = B₁.accepted.1 in
+      let long : c ≤ length cells = omega (arith, A.cells_long) in
+      record {
+        map₁ = rw B₂.kept (filled_part seed₁ keys (key_values b keys) cells cells₁ long F);
+        map₂ = rw F.beyond at B₂.part.accepted.1;
+      }

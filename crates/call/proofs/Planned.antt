@@ -14,7 +14,7 @@ use Rattle.items.proofs.Values.{row_is, length_prefixes, number_is, row_bucket, 
 use Rattle.items.proofs.Values.{row_prefix}
 use Rattle.call.specs.Build.{CallFilled}
 use Rattle.outcomes.specs.Outcomes.{row_says}
-use Rattle.outcomes.specs.declared.Located.TheVariants.{At}
+use Rattle.std.specs.Prelude.{Some}
 use Rattle.outcomes.proofs.Standing.{row_found}
 use Rattle.callask.specs.Ask.{rule_says}
 use Rattle.callask.proofs.Asking.{rule_row_told}
@@ -47,7 +47,7 @@ module _ (keys : List ℕ) (b seed₁ seed₂ : ℕ) (cells cells' : List ℕ) (
       sym (number_is b keys (r / b) (row_bucket b keys S r h)) ∙ sym (F.map₂.valued (r / b) there)
       ∙ ap (λ (t : ℕ). map_value part t seed₂ (get_or (prefix_items b keys) (r / b) 0)) (length_prefixes b keys)
 
-  pub planned_row : rule_says keys b seed₁ seed₂ cells' x ≡ At r
+  pub planned_row : rule_says keys b seed₁ seed₂ cells' x ≡ Some r
   planned_row =
       let short : value / 256 ≤ 63 = omega (arith, value_length b keys S r h, bits_small b keys S r h) in
       let at : r / b * b + value % 256 ≡ r = ap (λ (o : ℕ). r / b * b + o) (value_offset b keys S r h) ∙ row_is b r in

@@ -3,39 +3,46 @@
 ghost use Rattle.call.specs.Inner.{Buildable, KeysBuilt, PrefixesBuilt};
 
 use items::Items;
+use items::source::Source;
+use tables::delimiters::Delimiters;
 
-// Map 1, in the cells before C(n). The answer is the size of its largest jam, 0 where it is built.
-pub fn build_keys(keys: &[u64], b: usize, seed1: u64, cells: &mut [u16], work: &mut [u16]) -> usize
-    requires { Buildable keys.now b cells.old work.old }
-    ensures { KeysBuilt keys.now b seed1 cells.old work.old result
+// Map 1, in the cells before C(n). The error is the size of its largest jam.
+pub fn build_keys(
+    rows: &Delimiters,
+    seed1: u64,
+    cells: &mut [u16],
+    work: &mut [u16],
+) -> Result<(), usize>
+    requires { Buildable rows.now.keys.now rows.now.b cells.old work.old }
+    ensures { KeysBuilt rows.now.keys.now rows.now.b seed1 cells.old work.old result
         cells.new work.new }
 {
-    let none = [0u16; 1];
-    maps::build::build(Items::Keys, b, seed1, keys, &none, &none, cells, work)
+    let source = Source {
+        which: Items::Keys,
+        rows: *rows,
+        left: &[],
+        right: &[],
+    };
+    maps::build::build(&source, seed1, cells, work)
 }
 
-// Map 2, in the part of the store that starts in the middle, at cell C(n).
+// Map 2, in the part of the store that starts in the middle, at cell C(n). The error is the size of its largest jam.
 pub fn build_prefixes(
-    keys: &[u64],
-    b: usize,
+    rows: &Delimiters,
     seed2: u64,
     cells: &mut [u16],
     work: &mut [u16],
-) -> usize
-    requires { Buildable keys.now b cells.old work.old }
-    ensures { PrefixesBuilt keys.now b seed2 cells.old work.old result
+) -> Result<(), usize>
+    requires { Buildable rows.now.keys.now rows.now.b cells.old work.old }
+    ensures { PrefixesBuilt rows.now.keys.now rows.now.b seed2 cells.old work.old result
         cells.new work.new }
 {
-    let none = [0u16; 1];
-    let c = cells::cell_count(keys.len());
-    maps::build::build(
-        Items::Prefixes,
-        b,
-        seed2,
-        keys,
-        &none,
-        &none,
-        &mut cells[c..],
-        work,
-    )
+    let source = Source {
+        which: Items::Prefixes,
+        rows: *rows,
+        left: &[],
+        right: &[],
+    };
+    let c = cells::cell_count(rows.keys.len());
+    maps::build::build(&source, seed2, &mut cells[c..], work)
 }

@@ -7,4 +7,4 @@
 
 pub mod build;
 
-pub use callask::{CallAnswer, call_ask};
+pub use callask::call_ask;

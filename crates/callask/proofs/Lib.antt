@@ -1,7 +1,7 @@
 -- The laws of the definitions in specs/.
---   Asking:     the chain of refusals, and the rule from what its calls find
 --   Answers:    a row is answered only where the key stands
+--   Asking:     the chain of refusals, and the rule from what its calls find
 --   Determined: what the statement determines
-pub mod Asking
 pub mod Answers
+pub mod Asking
 pub mod Determined

@@ -1,6 +1,7 @@
 -- Document 01, "Call index", and request Eight: asking x.
-use Rattle.std.specs.Prelude.{cond, List, [], ℕ, ◌+◌, ◌*◌, ◌/◌, ◌%◌, ltb, length, drop}
+use Rattle.std.specs.Prelude.{cond, Option, None, Result, Ok, Err, List, [], ℕ, ◌+◌, ◌*◌, ◌/◌, ◌%◌, ltb, length, drop}
 use Rattle.refusals.specs.Numbers.{number, names}
+use Rattle.refusals.specs.declared.Refusal.{Refusal}
 use Rattle.words.specs.Keys.{prefix_item}
 use Rattle.cells.specs.Cells.{cell_count, map_value}
 use Rattle.tables.specs.Delimiters.{buckets}
@@ -8,19 +9,16 @@ use Rattle.stores.specs.Sizes.{call_sizes}
 use Rattle.stores.specs.Stores.{asked, sizes_beside}
 use Rattle.stores.specs.Judged.{ask_refused}
 use Rattle.outcomes.specs.Outcomes.{Told, row_says, told_by, marked}
-use Rattle.outcomes.specs.declared.Located.{Located}
-use Rattle.outcomes.specs.declared.Located.TheVariants.{Nowhere}
-use Rattle.callask.specs.declared.CallAnswer.{CallAnswer}
-use Rattle.callask.specs.declared.CallAnswer.TheVariants as answer
+use Rattle.outcomes.specs.declared.Outcome.{Outcome}
 
 -- what an ask says, in the documents' numbers: an outcome, or a refusal and what it names
 pub data CallSaid : Type 0 where
   outcome : Told → CallSaid
   refused : ℕ → ℕ → CallSaid
 
-abbrev pub said_by_call : CallAnswer → CallSaid
-said_by_call (answer.Told o) = outcome (told_by o)
-said_by_call (answer.Refused r) = refused (number r) (names r)
+abbrev pub said_by_call : Result Outcome Refusal → CallSaid
+said_by_call (Ok o) = outcome (told_by o)
+said_by_call (Err r) = refused (number r) (names r)
 
 -- the row that the two maps give x: of its map 1 value, length = floor(value/256) and offset = value mod 256; the first
 -- bits of x give the bucket, by map 2 in the part that starts at cell C(n); row = bucket × B + offset
@@ -32,9 +30,9 @@ rule_row keys b seed₁ seed₂ cells x =
     bucket * b + value % 256
 
 -- length over 63: nowhere; otherwise the table's key in that row decides
-unfoldable pub rule_says : List ℕ → ℕ → ℕ → ℕ → List ℕ → ℕ → Located
+unfoldable pub rule_says : List ℕ → ℕ → ℕ → ℕ → List ℕ → ℕ → Option ℕ
 rule_says keys b seed₁ seed₂ cells x =
-    cond (ltb 63 (map_value cells (length keys) seed₁ x / 256)) Nowhere
+    cond (ltb 63 (map_value cells (length keys) seed₁ x / 256)) None
     (row_says keys (rule_row keys b seed₁ seed₂ cells x) x)
 
 -- the refusals before the rule, 4 for the call cells (1) and then for the row bytes (7); and what the row's byte makes

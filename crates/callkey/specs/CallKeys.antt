@@ -1,11 +1,9 @@
 -- Document 01, "Call keys".
-use Rattle.std.specs.Prelude.{cond, List, [], ◌∷◌, ℕ, ◌-◌, ◌^◌, ltb, get_or}
+use Rattle.std.specs.Prelude.{cond, Result, Ok, Err, List, [], ◌∷◌, ℕ, ◌-◌, ◌^◌, ltb, get_or}
 use Rattle.refusals.specs.Numbers.{number, names}
+use Rattle.refusals.specs.declared.Refusal.{Refusal}
 use Rattle.callkey.specs.Fields.{joined, parted}
-use Rattle.callkey.specs.declared.Packed.{Packed}
-use Rattle.callkey.specs.declared.Packed.TheVariants as packed
-use Rattle.callkey.specs.declared.Unpacked.{Unpacked}
-use Rattle.callkey.specs.declared.Unpacked.TheVariants as unpacked
+use Rattle.callkey.specs.declared.Fields.{Fields}
 
 -- from the top: day 16 bits, stop 16 bits, planned second 17 bits, block 15 bits
 abbrev pub widths : List ℕ
@@ -21,13 +19,13 @@ pub data Said : Type 0 where
   fields : ℕ → ℕ → ℕ → ℕ → Said
   refused : ℕ → ℕ → Said
 
-abbrev pub said_by_packer : Packed → Said
-said_by_packer (packed.Key k) = key k
-said_by_packer (packed.Refused r) = refused (number r) (names r)
+abbrev pub said_by_packer : Result ℕ Refusal → Said
+said_by_packer (Ok k) = key k
+said_by_packer (Err r) = refused (number r) (names r)
 
-abbrev pub said_by_unpacker : Unpacked → Said
-said_by_unpacker (unpacked.Fields f) = fields f.day f.stop f.second f.block
-said_by_unpacker (unpacked.Refused r) = refused (number r) (names r)
+abbrev pub said_by_unpacker : Result Fields Refusal → Said
+said_by_unpacker (Ok f) = fields f.day f.stop f.second f.block
+said_by_unpacker (Err r) = refused (number r) (names r)
 
 -- packing refuses a field over its largest value
 unfoldable pub pack_says : ℕ → ℕ → ℕ → ℕ → Said

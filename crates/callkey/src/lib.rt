@@ -22,42 +22,21 @@ pub struct Fields {
     pub block: u32,
 }
 
-#[derive(Clone, Copy)]
-pub enum Packed {
-    Key(u64),
-    Refused(Refusal),
-}
-
-#[derive(Clone, Copy)]
-pub enum Unpacked {
-    Fields(Fields),
-    Refused(Refusal),
-}
-
 // The key of four fields, or refusal 7 where one is over its largest value.
 #[tactic(auto, unfolding(crate::specs::CallKeys::pack_says))]
-pub fn pack(day: u32, stop: u32, second: u32, block: u32) -> Packed
+pub fn pack(day: u32, stop: u32, second: u32, block: u32) -> Result<u64, Refusal>
     ensures { said_by_packer result ≡ pack_says day stop second block }
 {
-    if 65535 < day {
-        return Packed::Refused(Refusal::Field);
+    if 65535 < day || 65535 < stop || LAST_SECOND < second || 32767 < block {
+        return Err(Refusal::Field);
     }
-    if 65535 < stop {
-        return Packed::Refused(Refusal::Field);
-    }
-    if LAST_SECOND < second {
-        return Packed::Refused(Refusal::Field);
-    }
-    if 32767 < block {
-        return Packed::Refused(Refusal::Field);
-    }
-    let top = (day as u64) * 0x1_0000_0000_0000 + (stop as u64) * 0x1_0000_0000;
-    Packed::Key(top + (second as u64) * 0x8000 + block as u64)
+    let top = u64::from(day) * 0x1_0000_0000_0000 + u64::from(stop) * 0x1_0000_0000;
+    Ok(top + u64::from(second) * 0x8000 + u64::from(block))
 }
 
 // The fields of a key, or refusal 7 where its second is too large: the other fields have no room to be.
 #[tactic(auto, unfolding(crate::specs::CallKeys::unpack_says))]
-pub fn unpack(key: u64) -> Unpacked
+pub fn unpack(key: u64) -> Result<Fields, Refusal>
     ensures { said_by_unpacker result ≡ unpack_says key }
 {
     let day = key / 0x1_0000_0000_0000;
@@ -67,9 +46,9 @@ pub fn unpack(key: u64) -> Unpacked
     let second = (after_stop / 0x8000) as u32;
     let block = after_stop % 0x8000;
     if second > LAST_SECOND {
-        return Unpacked::Refused(Refusal::Field);
+        return Err(Refusal::Field);
     }
-    Unpacked::Fields(Fields {
+    Ok(Fields {
         day: day as u32,
         stop: stop as u32,
         second,

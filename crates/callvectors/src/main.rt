@@ -4,9 +4,17 @@
 
 mod unbuilt;
 
-use samplings::builds::Profile;
+use samples::console::Console;
+use samplings::profiles::Full;
+use samplings::told;
+use std::io;
+
+fn print(rt: &impl Print) -> io::Result<()> {
+    told::print::<Full>(rt)?;
+    unbuilt::print(rt)
+}
 
 fn main() {
-    samplings::told::print(Profile::Full);
-    unbuilt::print();
+    // A program that can't write ends as one that could: what it prints is compared.
+    let _ = print(&Console);
 }

@@ -1,79 +1,52 @@
 // What the call index says over cleared, sparse and random cells, of tables and tables turned round.
 ghost use Rattle.std.specs.Prelude.{◌≤◌};
 
-use samples::store::{Part, mixed, none};
+use samples::store::{first, mixed, none};
+use samples::table;
 use samples::table::{Order, Sample};
-use samples::{table, text};
 use samplings::asks::print_call;
+use std::io;
 
-fn print_cells(name: &[u8], part: Part, keys: &[u64], b: usize) {
-    text::word(name);
-    print_call(keys, b, part);
+// The lines of a table, of which the first `few` cells are sparse; `turned` ends the rules' names.
+fn print_cells(
+    rt: &impl Print,
+    keys: &[u64],
+    b: usize,
+    few: usize,
+    turned: &str,
+) -> io::Result<()> {
+    for (name, part) in [
+        ("zero", none()),
+        ("few", mixed(0, few, 7, 3)),
+        ("random", mixed(0, 3798, 1000003, 65535)),
+    ] {
+        print!(rt; "cells={name}{turned}")?;
+        print_call(rt, keys, b, part)?;
+    }
+    Ok(())
 }
 
-fn print_rising(few: usize, keys: &[u64], b: usize) {
-    print_cells(b"cells=zero", none(), keys, b);
-    print_cells(b"cells=few", mixed(0, few, 7, 3), keys, b);
-    print_cells(b"cells=random", mixed(0, 3798, 1000003, 65535), keys, b);
-}
-
-fn print_turned(few: usize, keys: &[u64], b: usize) {
-    print_cells(b"cells=zero-turned", none(), keys, b);
-    print_cells(b"cells=few-turned", mixed(0, few, 7, 3), keys, b);
-    print_cells(
-        b"cells=random-turned",
-        mixed(0, 3798, 1000003, 65535),
-        keys,
-        b,
-    );
-}
-
-fn block(sample: Sample, n: usize, b: usize)
+fn block(rt: &impl Print, sample: Sample, n: usize, b: usize) -> io::Result<()>
     requires { n ≤ 2000 }
 {
     let mut keys = [0u64; 2000];
     let few = cells::cell_count(n);
-    text::table(sample, n);
-    text::number(b" bucket=", b as u64);
-    text::word(b"\n");
+    println!(rt; "table={sample} keys={n} bucket={b}")?;
     table::fill(sample, Order::Rising, &mut keys);
-    print_rising(few, table::first(n, &keys), b);
+    print_cells(rt, first(n, &keys), b, few, "")?;
     table::fill(sample, Order::Turned(n), &mut keys);
-    print_turned(few, table::first(n, &keys), b);
+    print_cells(rt, first(n, &keys), b, few, "-turned")
 }
 
-fn buckets(sample: Sample, n: usize)
-    requires { n ≤ 2000 }
-{
-    block(sample, n, 2);
-    block(sample, n, 3);
-    block(sample, n, 16);
-    block(sample, n, 255);
-    block(sample, n, 256);
-}
-
-fn small(sample: Sample) {
-    buckets(sample, 0);
-    buckets(sample, 1);
-    buckets(sample, 2);
-    buckets(sample, 3);
-    buckets(sample, 17);
-    buckets(sample, 64);
-    buckets(sample, 65);
-}
-
-fn large(sample: Sample) {
-    buckets(sample, 256);
-    buckets(sample, 257);
-    buckets(sample, 2000);
-}
-
-pub fn print() {
-    small(Sample::Sequential);
-    large(Sample::Sequential);
-    small(Sample::Spread);
-    large(Sample::Spread);
-    small(Sample::Clustered);
-    large(Sample::Clustered);
-    small(Sample::Bits);
+pub fn print(rt: &impl Print) -> io::Result<()> {
+    for sample in Sample::ALL {
+        for n in [0, 1, 2, 3, 17, 64, 65, 256, 257, 2000] {
+            if n <= sample.most() {
+                for b in [2, 3, 16, 255, 256] {
+                    block(rt, sample, usize::from(n), b)?;
+                }
+            }
+        }
+    }
+    Ok(())
 }

@@ -1,35 +1,19 @@
--- Memory that is cleared entry by entry, and memory that is cleared again: the longer clearing decides. Assumes
+-- Memory that is overwritten entry by entry, and memory that is cleared again: the longer clearing decides. Assumes
 -- nothing.
-use mathlib.Core.Path.{◌≡◌, refl, sym, ap, ◌∙◌}
-use mathlib.Core.List.{List, ◌++◌, append_assoc}
-use Prim.Native.Nat.{ℕ, ◌+◌, ◌-◌, ◌≤◌, ◌<◌, zero-le}
-use native.Mathlib.Numerals.{add-one-le}
-use native.Mathlib.Omega.{arith}
-use lib.ListN.{length, set, drop, replicate, length-set, length-replicate, replicate-append-replicate}
-use lib.Seq.{drop_at, drop-drop}
-use borrow.Author.Fill.{fill_more}
+use Rattle.std.proofs.Common.{◌≡◌, ℕ, zero, suc, ◌+◌, ◌-◌, ◌≤◌, ◌<◌, List, [], ◌∷◌, ◌++◌, length, set, drop, replicate, refl, sym, ap, ◌∙◌, append_assoc, add-one, arith}
+use Rattle.std.proofs.lemmas.List.{drop_at, drop-drop, length-replicate, replicate-append-replicate}
 use Rattle.cells.specs.Memory.{cleared}
 
--- of m entries of `old` that are to be cleared the first i are, and the others are as they were
-pub record Clearing (m : ℕ) (old : List ℕ) (i : ℕ) (new : List ℕ) : Type 0 where
-  pub zeros : new ≡ cleared i old
-  pub within : i ≤ m
-  pub kept : length new ≡ length old
+-- the first i entries overwritten, and one more
+replicate_suc : {A : Type 0} (i : ℕ) (a : A) (xs : List A) → i < length xs
+    → set (replicate i a ++ drop i xs) i a ≡ replicate (suc i) a ++ drop (suc i) xs
+replicate_suc i a [] within = absurd (omega arith)
+replicate_suc zero a (x ∷ xs) within = refl
+replicate_suc (suc i) a (x ∷ xs) within = ap (λ ys. a ∷ ys) (replicate_suc i a xs (omega arith))
 
-module _ (m : ℕ) (old : List ℕ) where
-  pub clear_none : Clearing m old 0 old
-  clear_none = record { zeros = refl; within = zero-le; kept = refl }
-
-  pub clear_more : (i : ℕ) (new : List ℕ) → Clearing m old i new → i < m → m ≤ length old
-      → Clearing m old (i + 1) (set new i 0)
-  clear_more i new C more room = record {
-    zeros = ap (λ (l : List ℕ). set l i 0) C.zeros ∙ fill_more i 0 old (omega arith);
-    within = add-one-le more;
-    kept = length-set new i 0 ∙ C.kept;
-  }
-
-  pub clear_all : (i : ℕ) (new : List ℕ) → Clearing m old i new → m ≤ i → new ≡ cleared m old
-  clear_all i new C all = let whole : i ≡ m = omega arith in rw whole at C.zeros
+pub replicate_more : {A : Type 0} (i : ℕ) (a : A) (xs : List A) → i < length xs
+    → set (replicate i a ++ drop i xs) i a ≡ replicate (i + 1) a ++ drop (i + 1) xs
+replicate_more i a xs within = rw add-one (replicate_suc i a xs within)
 
 abbrev zeroes : ℕ → List ℕ
 zeroes m = replicate m 0
@@ -44,10 +28,7 @@ drop_cleared m k xs h =
     ∙ drop-drop (k - m) m xs
     ∙ ap (λ (j : ℕ). drop j xs) split
 
--- cleared over m and then over more, or over k and then over less
-pub cleared_over : (m k : ℕ) (xs : List ℕ) → m ≤ k → cleared k (cleared m xs) ≡ cleared k xs
-cleared_over m k xs h = ap (λ (ys : List ℕ). replicate k 0 ++ ys) (drop_cleared m k xs h)
-
+-- cleared over k, it is cleared over fewer too
 pub cleared_within : (m k : ℕ) (xs : List ℕ) → m ≤ k → cleared m (cleared k xs) ≡ cleared k xs
 cleared_within m k xs h =
     let split : m + (k - m) ≡ k = omega arith in

@@ -5,10 +5,9 @@
 // its reciprocal.
 #![tactic(auto)]
 
-ghost use Rattle.std.specs.Prelude.{◌≡◌, ◌*◌, ◌≤◌, ◌<◌, length};
+ghost use Rattle.std.specs.Prelude.{◌≡◌, ◌*◌, ◌≤◌, ◌<◌, ◌++◌, length, replicate, drop};
 ghost use Rattle.words.specs.Inner.{Reciprocal};
 ghost use Rattle.cells.specs.Cells.{segment, cell_count, work_count, cell_of, Segment, value_at, map_value};
-ghost use Rattle.cells.specs.Memory.{cleared};
 
 use words::remainder::{reciprocal, remainder, small_remainder};
 
@@ -38,7 +37,9 @@ pub fn work_count(t: usize) -> usize
 }
 
 // The cell that the hash h touches in segment j, of m cells each, from the reciprocal r of m: a map has one, and
-// needs no division for each of its items.
+// needs no division for each of its items. m and r stay two numbers here: the value that holds both, with their facts, is
+// `counts::map::Map`, in a crate above.
+#[tactic(auto, using(crate::proofs::Values::cell_below, crate::proofs::Values::first_cell), unfolding(crate::specs::Cells::cell_of))]
 pub fn cell_from(h: u64, m: usize, r: u64, j: usize) -> usize
     requires { Segment m × Reciprocal m r × (j < 3) }
     ensures { (result ≡ cell_of m j h) × (result < 3 * m) }
@@ -59,6 +60,7 @@ pub fn cell_of(h: u64, m: usize, j: usize) -> usize
 }
 
 // The value of the hash h, the xor of its three cells, from the reciprocal r of m.
+#[tactic(auto, unfolding(crate::specs::Cells::value_at))]
 pub fn value_from(cells: &[u16], m: usize, r: u64, h: u64) -> u16
     requires { Segment m × Reciprocal m r × (3 * m ≤ length cells.now) }
     ensures { result ≡ value_at m cells.now h }
@@ -85,26 +87,14 @@ pub fn look_up(cells: &[u16], t: usize, seed: u64, item: u64) -> u16
     value_of(cells, segment_size(t), words::hash::item_hash(item, seed))
 }
 
-// The first m entries become 0, and the rest stays: what a named length is left with.
-pub fn clear(s: &mut [u16], m: usize)
+// The first m entries become zero, and the rest stays: what a named length is left with. `fill` would ask callers that a
+// clone can't fail, which is no part of `Copy`.
+#[tactic(auto, using(crate::proofs::Sweeping::replicate_more))]
+pub fn clear<T: Copy>(s: &mut [T], m: usize, zero: T)
     requires { m ≤ length s.old }
-    ensures { s.new ≡ cleared m s.old }
+    ensures { s.new ≡ replicate m zero ++ drop m s.old }
 {
-    let mut i = 0;
-    while i < m {
-        s[i] = 0;
-        i += 1;
-    }
-}
-
-// The same of bytes.
-pub fn clear_bytes(bytes: &mut [u8], m: usize)
-    requires { m ≤ length bytes.old }
-    ensures { bytes.new ≡ cleared m bytes.old }
-{
-    let mut at = 0;
-    while at < m {
-        bytes[at] = 0;
-        at += 1;
+    for i in 0..m {
+        s[i] = zero;
     }
 }

@@ -1,29 +1,20 @@
 -- A map that is being built, and what counting its items leaves.
 use Rattle.std.specs.Prelude.{◌≡◌, List, ℕ, zero, suc, ◌+◌, ◌*◌, ◌≤◌, length, get_or}
-use Rattle.words.specs.Inner.{mixed_hash, Reciprocal}
-use Rattle.cells.specs.Cells.{segment, cell_of, Segment}
-use Rattle.items.specs.Items.{items_of, Known}
-use Rattle.counts.specs.declared.Map.{Map}
+use Rattle.words.specs.Inner.{mixed_hash}
+use Rattle.cells.specs.Cells.{cell_of}
+use Rattle.items.specs.Inner.{items_in}
+use Rattle.counts.specs.declared.map.Map.{Map}
 use Rattle.counts.specs.declared.Touched.{Touched}
 use Rattle.jams.specs.Inner.Peel.{touchb}
 use Rattle.jams.specs.Inner.Work.{CellsHold, Beyond, Peeled, Spread}
 
 -- the hash of item i
-abbrev pub hash_of : Map → List ℕ → ℕ → ℕ
-hash_of map keys i = mixed_hash (get_or (items_of map.which map.b keys) i 0) map.mixed
+abbrev pub hash_of : Map → ℕ → ℕ
+hash_of map i = mixed_hash (get_or (items_in map.source) i 0) map.mixed
 
 -- the cell that item i touches in segment j
-abbrev pub graph : Map → List ℕ → ℕ → ℕ → ℕ
-graph map keys j i = cell_of map.m j (hash_of map keys i)
-
--- the map's items can be read, and its sizes are theirs
-pub record Ready (map : Map) (keys left right : List ℕ) : Type 0 where
-  pub known : Known map.which map.b keys left right
-  pub all : map.t ≡ length (items_of map.which map.b keys)
-  pub few : map.t ≤ 32768
-  pub size : map.m ≡ segment map.t
-  pub fits : Segment map.m
-  pub reciprocal : Reciprocal map.m map.r
+abbrev pub graph : Map → ℕ → ℕ → ℕ
+graph map j i = cell_of map.m j (hash_of map i)
 
 -- three cells as those of any item
 abbrev pub cells_of : Touched → ℕ → ℕ → ℕ
@@ -39,12 +30,11 @@ pub record CellsAt (e : ℕ → ℕ → ℕ) (cap i : ℕ) (at : Touched) : Type
   pub spread : Spread (cells_of at) cap i
 
 -- work a, in which no item is counted, became b, in which the first i are
-pub record ItemsCounted (map : Map) (keys : List ℕ) (i : ℕ) (a b : List ℕ) : Type 0 where
-  pub holds : CellsHold i (3 * map.m) (λ c j. touchb (graph map keys) j c) b
+pub record ItemsCounted (map : Map) (i : ℕ) (a b : List ℕ) : Type 0 where
+  pub holds : CellsHold i (3 * map.m) (λ c j. touchb (graph map) j c) b
   pub beyond : Beyond (6 * map.m) a b
 
 -- n of the map's items have their turns, of which q are taken out, and the work is long enough for all of them
-pub record AtTurn (map : Map) (keys left right work : List ℕ) (q n : ℕ) : Type 0 where
-  pub ready : Ready map keys left right
+pub record AtTurn (map : Map) (work : List ℕ) (q n : ℕ) : Type 0 where
   pub long : 6 * map.m + 2 * map.t ≤ length work
-  pub peeled : Peeled (graph map keys) map.t (3 * map.m) work q n
+  pub peeled : Peeled (graph map) map.t (3 * map.m) work q n

@@ -1,30 +1,22 @@
 // A map that is being built (document 01, "Static maps"), and its items counted: for each cell how many of the items
 // touch it, and the xor of their numbers. Where one item is left at a cell, the xor is its number. The first 3 * m
-// places of the work hold the counts, and the next 3 * m the xors.
+// places of the work hold the counts, and the next 3 * m the xors. The work stays one slice with its `cap`: cut into the
+// counts, the xors and the turns it would be three or four arguments, each with a fact on its length.
 //
 // Every function is proved and the crate assumes nothing.
 #![tactic(auto)]
 
 ghost use Rattle.std.specs.Prelude.{◌≡◌, ℕ, ◌+◌, ◌*◌, ◌<◌, ◌≤◌, length, get_or};
-ghost use Rattle.words.specs.Inner.{mixed_hash};
-ghost use Rattle.items.specs.Items.{items_of, Known};
 ghost use Rattle.jams.specs.Jam.{Touches};
 ghost use Rattle.jams.specs.Inner.Work.{PutAt, Put, Blank, Spread};
-ghost use Rattle.counts.specs.Inner.{graph, cells_of, CellsAt, Ready, ItemsCounted};
+ghost use Rattle.words.specs.Inner.{mixed_hash};
+ghost use Rattle.items.specs.Inner.{items_in};
+ghost use Rattle.counts.specs.Inner.{graph, cells_of, CellsAt, ItemsCounted};
 
-use items::Items;
+pub mod map;
 
-// A map that is being built: its items over buckets of b rows, their mixed seed, the size m of its segments with its
-// reciprocal r, and the number t of its items.
-#[derive(Clone, Copy)]
-pub struct Map {
-    pub which: Items,
-    pub b: usize,
-    pub mixed: u64,
-    pub m: usize,
-    pub r: u64,
-    pub t: usize,
-}
+use items::source::Source;
+use map::Map;
 
 // The three cells that an item touches, one in each segment.
 #[derive(Clone, Copy)]
@@ -34,36 +26,26 @@ pub struct Touched {
     pub third: usize,
 }
 
-// The hash of item i. It is too long to be put into the loops that call it, and takes numbers: a struct would be copied
-// for each call.
-pub fn hash_at(
-    which: Items,
-    b: usize,
-    mixed: u64,
-    keys: &[u64],
-    left: &[u16],
-    right: &[u16],
-    i: usize,
-) -> u64
-    requires { Known which b keys.now left.now right.now × (i < length (items_of which b keys.now)) }
-    ensures { result ≡ mixed_hash (get_or (items_of which b keys.now) i 0) mixed }
+// The hash of item i under a mixed seed. It is too long to be put into the loops that call it.
+pub fn hash_at(source: &Source, mixed: u64, i: usize) -> u64
+    requires { i < length (items_in source.now) }
+    ensures { result ≡ mixed_hash (get_or (items_in source.now) i 0) mixed }
 {
-    words::hash::mixed_hash(items::item_at(which, b, keys, left, right, i), mixed)
+    words::hash::mixed_hash(source.item_at(i), mixed)
 }
 
-// The cells that item i touches.
-pub fn cells_at(map: Map, keys: &[u64], left: &[u16], right: &[u16], i: usize) -> Touched
-    requires { Ready map keys.now left.now right.now × (i < map.t) }
-    ensures { CellsAt (graph map keys.now) (3 * map.m) i result }
-{
-    let which = map.which;
-    let m = map.m;
-    let r = map.r;
-    let h = hash_at(which, map.b, map.mixed, keys, left, right, i);
-    Touched {
-        first: cells::cell_from(h, m, r, 0),
-        second: cells::cell_from(h, m, r, 1),
-        third: cells::cell_from(h, m, r, 2),
+impl Map<'_> {
+    // The cells that item i touches.
+    pub fn cells_at(&self, i: usize) -> Touched
+        requires { i < self.now.t }
+        ensures { CellsAt (graph self.now) (3 * self.now.m) i result }
+    {
+        let h = hash_at(&self.source, self.mixed, i);
+        Touched {
+            first: cells::cell_from(h, self.m, self.r, 0),
+            second: cells::cell_from(h, self.m, self.r, 1),
+            third: cells::cell_from(h, self.m, self.r, 2),
+        }
     }
 }
 
@@ -73,8 +55,8 @@ fn put_in(work: &mut [u16], cap: usize, c: usize, i: u16)
     ensures { PutAt cap c i work.old work.new }
 {
     let x = cap + c;
-    work[c] = work[c] + 1;
-    work[x] = work[x] ^ i;
+    work[c] += 1;
+    work[x] ^= i;
 }
 
 // Takes item i out at cell c: putting it in again gives what was there.
@@ -83,8 +65,8 @@ fn take_out(work: &mut [u16], cap: usize, c: usize, i: u16)
     ensures { PutAt cap c i work.new work.old }
 {
     let x = cap + c;
-    work[c] = work[c] - 1;
-    work[x] = work[x] ^ i;
+    work[c] -= 1;
+    work[x] ^= i;
 }
 
 // Puts item i in at each of its cells.
@@ -110,16 +92,12 @@ pub fn take_item(work: &mut [u16], cap: usize, at: Touched, i: u16)
 }
 
 // Puts all items in, over counts and xors that are 0.
-pub fn count_all(map: Map, keys: &[u64], left: &[u16], right: &[u16], work: &mut [u16])
-    requires { Ready map keys.now left.now right.now × Blank (6 * map.m) work.old }
-    ensures { ItemsCounted map keys.now map.t work.old work.new }
+pub fn count_all(map: &Map, work: &mut [u16])
+    requires { Blank (6 * map.now.m) work.old }
+    ensures { ItemsCounted map.now map.now.t work.old work.new }
 {
-    let m = map.m;
-    let t = map.t;
-    let mut i = 0;
-    while i < t {
-        let at = cells_at(map, keys, left, right, i);
-        put_item(work, 3 * m, at, i as u16);
-        i += 1;
+    for i in 0..map.t {
+        let at = map.cells_at(i);
+        put_item(work, 3 * map.m, at, i as u16);
     }
 }

@@ -1,16 +1,16 @@
--- One probe after another: what the tests of the code decide, and what is left of a walk from its root after so many
+-- One probe after another: where a probe leads, and what is left of a walk from its root after so many
 -- probes. Assumes nothing.
-use Rattle.std.proofs.Common.{◌≡◌, ℕ, zero, suc, ◌+◌, ◌-◌, ◌^◌, ◌<◌, ◌≤◌, true, false, eqb, leb, List, ◌∷◌, length, sym, refl, ◌∙◌, arith, lt-ltb, eq-eqb, ne_eqb, le-leb, leb-false, leb-true}
+use Rattle.std.proofs.Common.{◌≡◌, ℕ, zero, suc, ◌+◌, ◌-◌, ◌^◌, ◌<◌, ◌≤◌, true, false, eqb, leb, List, ◌∷◌, length, sym, refl, ◌∙◌, arith, eq-eqb, ne_eqb, leb-false, leb-true}
 use Rattle.words.specs.Keys.{first_bits, shared_bits}
 use Rattle.words.specs.Fat.{Fattest}
 use Rattle.words.proofs.Fatness.{fattest_one}
 use Rattle.words.proofs.Sharing.{shared_iff}
 use Rattle.basics.proofs.Bools.{by_test}
-use Rattle.walks.specs.Walk.{agrees, probe_at, accepted, descend}
-use Rattle.descent.specs.Inner.{Stepped}
+use Rattle.walks.specs.Walk.{probe_at, accepted, descend}
+use Rattle.descent.specs.Inner.{Stepped, Reached}
 use Rattle.descent.specs.declared.State.{State}
 use Rattle.walks.proofs.Paths.{probe_fattest}
-use Rattle.walks.proofs.Descending.{Acceptable, accepted_means, turn, descend_goes, descend_stops}
+use Rattle.walks.proofs.Descending.{accepted_means, turn, descend_goes, descend_stops}
 
 -- keys have the same first l bits exactly if they share as many
 pub share_test : (x k l : ℕ) → x < 2 ^ 64 → k < 2 ^ 64 → l ≤ 64
@@ -22,37 +22,27 @@ share_test x k l hx hk h =
     (λ e. e ∙ sym (ne_eqb (first_bits l x) (first_bits l k)
     (λ z. omega (arith, law.1 z, leb-false l (shared_bits x k) e))))
 
--- a table, the lengths that the walk takes for its splits, and the key that is asked
-module _ (T : List ℕ) (lens : ℕ → ℕ) (x : ℕ) where
-  -- what is not accepted, and the last test of what may be
-  pub not_accepted : (f upper m : ℕ) → (Acceptable T lens x f upper m → ⊥) → false ≡ accepted T lens x f upper m
-  not_accepted f upper m fails =
-      by_test (accepted T lens x f upper m) (λ e. absurd (fails (accepted_means T lens x f upper m e))) sym
-
-  pub last_test : (f upper m l : ℕ) → l ≡ lens m → 0 < m → m < length T → f ≤ l → l < upper
-      → agrees T x m l ≡ accepted T lens x f upper m
-  unfolding accepted
-  last_test f upper m l is p h g s =
-      rw (← is, le-leb 1 m p, lt-ltb m (length T) h, le-leb f l g, lt-ltb l upper s)
-
-  -- one probe, at f, where the look-up gave m
-  module _ (find : ℕ → ℕ) (node upper f m : ℕ) (e : f ≡ probe_at (lens node) upper) (e' : m ≡ find f) where
-    pub stepped_to : (l last : ℕ) → l ≡ lens m → last + 1 ≡ upper → accepted T lens x f upper m ≡ true
-        → Stepped T lens x find node upper (record { node = m; lower = l; last = last })
-    stepped_to l last is top ok =
-        record { node_is = rw (← e, ← e', ok); upper_is = rw (← e, ← e', ok) top; lower_is = is }
-
-    pub stepped_under : (l last : ℕ) → l ≡ lens node → last + 1 ≡ f → accepted T lens x f upper m ≡ false
-        → Stepped T lens x find node upper (record { node = node; lower = l; last = last })
-    stepped_under l last is top ok =
-        record { node_is = rw (← e, ← e', ok); upper_is = rw (← e, ← e', ok) top; lower_is = is }
-
 -- the 2-fattest number above lower and up to last is where the walk probes
-pub probe_is : {lower l : ℕ} (last f : ℕ) → lower ≡ l → lower < last → last ≤ 63 → Fattest lower last f
+probe_is : {lower l : ℕ} (last f : ℕ) → lower ≡ l → lower < last → last ≤ 63 → Fattest lower last f
     → f ≡ probe_at l (last + 1)
 probe_is {lower} {l} last f is h u F =
     let e : last ≡ last + 1 - 1 = omega arith in
     fattest_one (rw (is, e) at F) (probe_fattest l (last + 1) (omega arith) (omega arith))
+
+-- one probe, at f, where the look-up gave m: it is accepted, and the walk goes there, or it isn't
+module _ {T : List ℕ} {lens : ℕ → ℕ} {x : ℕ} {find : ℕ → ℕ} {node lower last f m : ℕ} (F : Fattest lower last f)
+    (is : lower ≡ lens node) (h : lower < last) (u : last ≤ 63) (found : m ≡ find f) where
+  pub stepped_to : {l : ℕ} → accepted T lens x f (last + 1) m ≡ true → l ≡ lens m
+      → Stepped T lens x find node (last + 1) (record { node = m; lower = l; last = last })
+  stepped_to ok e =
+      let at = probe_is last f is h u F in
+      record { node_is = rw (← at, ← found, ok); upper_is = rw (← at, ← found, ok); lower_is = e }
+
+  pub stepped_under : accepted T lens x f (last + 1) m ≡ false
+      → Stepped T lens x find node (last + 1) (record { node = node; lower = lower; last = f - 1 })
+  stepped_under ok =
+      let at = probe_is last f is h u F in
+      record { node_is = rw (← at, ← found, ok); upper_is = rw (← at, ← found, ok) (omega (arith, F.above)); lower_is = is }
 
 -- what is left of the walk from the root when so many probes are made
 pub record Going (T : List ℕ) (lens : ℕ → ℕ) (x : ℕ) (find : ℕ → ℕ) (root node lower upper probes : ℕ) : Type 0 where
@@ -86,10 +76,17 @@ going_start T lens x find root lower upper is h l s all = record {
 
 pub going_end : {T : List ℕ} {lens : ℕ → ℕ} {x : ℕ} {find : ℕ → ℕ} {root node lower upper probes : ℕ}
     → Going T lens x find root node lower upper probes → upper ≤ suc lower
-    → (node ≡ (descend T lens x find 64 root 64).node) × (probes ≡ length (descend T lens x find 64 root 64).probed)
+    → Reached T lens x find root (record { node = node; lower = lower; probes = probes })
 going_end {T} {lens} {x} {find} {root} {node} {lower} {upper} {probes} G h =
     let e = descend_stops T lens x find G.turns node upper (omega (arith, G.is)) in
-    (rw e at G.same, omega (arith, rw e at G.counted))
+    record {
+      node_is = rw e at G.same;
+      probes_is = omega (arith, rw e at G.counted);
+      pos = G.pos;
+      small = G.small;
+      lower_is = G.is;
+      short = G.short;
+    }
 
 module _ (T : List ℕ) (lens : ℕ → ℕ) (x : ℕ) (find : ℕ → ℕ) (node upper : ℕ) (s : State)
     (h : suc (lens node) < upper) (S : Stepped T lens x find node upper s) where

@@ -1,29 +1,27 @@
 -- What only the contracts of inner functions need: the stores that probes read, and the state of the walk between
 -- probes.
-use Rattle.std.specs.Prelude.{◌≡◌, ℕ, ◌+◌, ◌-◌, ◌<◌, ◌≤◌, cond, List, length}
+use Rattle.std.specs.Prelude.{◌≡◌, ℕ, ◌+◌, ◌<◌, cond, List, length}
 use Rattle.words.specs.Keys.{prefix_item}
-use Rattle.cells.specs.Cells.{cell_count, map_value}
-use Rattle.tables.specs.Delimiters.{delimiters}
+use Rattle.cells.specs.Cells.{map_value}
+use Rattle.tables.specs.Inner.{listing}
 use Rattle.tables.specs.Lengths.{handle_count}
-use Rattle.splits.specs.Inner.{SplitOf, CountOf}
-use Rattle.walks.specs.Walk.{probe_at, accepted, descend}
+use Rattle.splits.specs.Inner.{SplitOf}
+use Rattle.walks.specs.Walk.{probe_at, accepted, stored_length, descend}
+use Rattle.descent.specs.declared.search.Search.{Search}
 use Rattle.descent.specs.declared.State.{State}
 use Rattle.descent.specs.declared.Descended.{Descended}
 
 -- what map 3 says of the first f bits of x
-abbrev pub handle_value : ℕ → (keys handles : List ℕ) → ℕ → ℕ → ℕ → ℕ
-handle_value b keys handles seed x f = map_value handles (handle_count (length (delimiters b keys))) seed (prefix_item x f)
+abbrev pub handle_value : Search → ℕ → ℕ → ℕ
+handle_value s x f = map_value s.handles.now (handle_count (length (listing s.rows))) s.seed (prefix_item x f)
 
--- n counts the delimiters, map 3 has cells enough for them, and the store of lengths an entry for each
-pub record Lent (b : ℕ) (keys : List ℕ) (n : ℕ) (handles lengths : List ℕ) : Type 0 where
-  pub counted : CountOf b keys n
-  pub few : n ≤ 32768
-  pub cells : cell_count (n - 2) ≤ length handles
-  pub entries : n ≤ length lengths
+-- the lengths of the splits, as they are stored
+abbrev pub lens_in : Search → ℕ → ℕ
+lens_in s = stored_length s.lengths.now
 
 -- the node of a walk is a split, and lower its length
-pub record Node (b : ℕ) (keys : List ℕ) (lens : ℕ → ℕ) (node lower : ℕ) : Type 0 where
-  pub split : SplitOf b keys node
+pub record Node (T : List ℕ) (lens : ℕ → ℕ) (node lower : ℕ) : Type 0 where
+  pub split : SplitOf T node
   pub is : lower ≡ lens node
   pub short : lower < 64
 

@@ -8,13 +8,14 @@
 
 ghost use Rattle.std.specs.Prelude.{◌≡◌, ◌+◌, ◌<◌, ◌≤◌, length};
 ghost use Rattle.words.specs.Fat.{Fattest};
-ghost use Rattle.tables.specs.Delimiters.{delimiters, Bucketed};
-ghost use Rattle.splits.specs.Inner.{CountOf};
+ghost use Rattle.tables.specs.Inner.{listing};
 ghost use Rattle.walks.specs.Walk.{agrees, accepted, stored_length};
-ghost use Rattle.descent.specs.Inner.{handle_value, Lent, Node, Stepped, Reached};
+ghost use Rattle.descent.specs.Inner.{handle_value, lens_in, Node, Stepped, Reached};
 
-use splits::split::length_at;
-use tables::delimiter::delimiter_at;
+pub mod search;
+
+use search::Search;
+use tables::delimiters::Delimiters;
 use tables::lengths::handle_count;
 use words::fattest::fattest;
 use words::prefix::{prefix_item, shared_bits};
@@ -35,116 +36,78 @@ pub struct Descended {
     pub probes: usize,
 }
 
-// Whether x has the first l bits of row m.
-pub fn agrees(keys: &[u64], b: usize, x: u64, m: usize, l: u32) -> bool
-    requires { Bucketed b keys.now × (m < length (delimiters b keys.now)) × (l ≤ 64) }
-    ensures { result ≡ agrees (delimiters b keys.now) x m l }
-{
-    l <= shared_bits(x, delimiter_at(keys, b, m))
-}
-
-// Whether the walk goes to m, which map 3 gave for the first f bits of x.
-fn accepts(
-    keys: &[u64],
-    b: usize,
-    n: usize,
-    lengths: &[u8],
-    x: u64,
-    f: u32,
-    last: u32,
-    m: usize,
-) -> bool
-    requires { CountOf b keys.now n × (0 < n) × (n ≤ length lengths.now) × (last ≤ 63) }
-    ensures { result ≡ accepted (delimiters b keys.now) (stored_length lengths.now) x f
-        (last + 1) m }
-{
-    // 1 <= m < n in one comparison: 0 wraps around to the largest number.
-    if std::num::wrapping_sub_usize(m, 1) >= n - 1 {
-        return false;
-    }
-    let l = length_at(lengths, m);
-    if l < f {
-        return false;
-    }
-    if l > last {
-        return false;
-    }
-    agrees(keys, b, x, m, l)
-}
-
 // The length that is probed: the 2-fattest number above lower and up to last.
 fn probe_length(lower: u32, last: u32) -> u32
     requires { (lower < last) × (last ≤ 63) }
     ensures { Fattest lower last result }
 {
-    fattest(lower as u64, last as u64) as u32
+    fattest(u64::from(lower), u64::from(last)) as u32
 }
 
-// One probe, and where the walk goes on.
-fn probe(
-    keys: &[u64],
-    b: usize,
-    n: usize,
-    seed3: u64,
-    handles: &[u16],
-    lengths: &[u8],
-    x: u64,
-    node: usize,
-    lower: u32,
-    last: u32,
-) -> State
-    requires { Lent b keys.now n handles.now lengths.now × Node b keys.now (stored_length lengths.now) node lower
-        × (lower < last) ×
-        (last ≤ 63) }
-    ensures { Stepped (delimiters b keys.now) (stored_length lengths.now) x
-        (handle_value b keys.now handles.now seed3 x) node (last + 1) result }
+// Whether x has the first l bits of row m.
+#[tactic(auto, using(crate::proofs::Steps::share_test))]
+pub fn agrees(rows: &Delimiters, x: u64, m: usize, l: u32) -> bool
+    requires { (m < length (listing rows.now)) × (l ≤ 64) }
+    ensures { result ≡ agrees (listing rows.now) x m l }
 {
-    let f = probe_length(lower, last);
-    let m = cells::look_up(handles, handle_count(n), seed3, prefix_item(x, f)) as usize;
-    if accepts(keys, b, n, lengths, x, f, last, m) {
-        return State {
-            node: m,
-            lower: length_at(lengths, m),
-            last: last,
+    l <= shared_bits(x, rows.at(m))
+}
+
+impl Search<'_> {
+    // Whether the walk goes to m, which map 3 gave for the first f bits of x.
+    #[tactic(auto, unfolding(walks::specs::Walk::accepted))]
+    fn accepts(&self, x: u64, f: u32, last: u32, m: usize) -> bool
+        requires { (0 < self.now.rows.count) × (last ≤ 63) }
+        ensures { result ≡ accepted (listing self.now.rows) (lens_in self.now) x f (last + 1) m }
+    {
+        // 1 <= m < count in one comparison: 0 wraps around to the largest number.
+        if m.wrapping_sub(1) >= self.rows.count - 1 {
+            return false;
+        }
+        let l = u32::from(self.lengths[m]);
+        f <= l && l <= last && agrees(&self.rows, x, m, l)
+    }
+
+    // One probe, and where the walk goes on.
+    #[tactic(auto, using(walks::proofs::Descending::accepted_means))]
+    fn probe(&self, x: u64, at: State) -> State
+        requires { Node (listing self.now.rows) (lens_in self.now) at.node at.lower × (at.lower < at.last) × (at.last ≤ 63) }
+        ensures { Stepped (listing self.now.rows) (lens_in self.now) x (handle_value self.now x) at.node (at.last + 1) result }
+    {
+        let f = probe_length(at.lower, at.last);
+        let t = handle_count(self.rows.count);
+        let m = usize::from(cells::look_up(self.handles, t, self.seed, prefix_item(x, f)));
+        if self.accepts(x, f, at.last, m) {
+            return State {
+                node: m,
+                lower: u32::from(self.lengths[m]),
+                ..at
+            };
+        }
+        State { last: f - 1, ..at }
+    }
+
+    // The probes from the root on, and their count.
+    #[tactic(auto, using(crate::proofs::Steps::going_start, crate::proofs::Steps::going_next))]
+    pub fn descend(&self, x: u64, root: usize, l: u32) -> Descended
+        requires { Node (listing self.now.rows) (lens_in self.now) root l }
+        ensures { Reached (listing self.now.rows) (lens_in self.now) x (handle_value self.now x) root result }
+    {
+        let mut at = State {
+            node: root,
+            lower: l,
+            last: 63,
         };
-    }
-    State {
-        node: node,
-        lower: lower,
-        last: f - 1,
-    }
-}
-
-// The probes from the root on, and their count.
-pub fn descend(
-    keys: &[u64],
-    b: usize,
-    n: usize,
-    seed3: u64,
-    handles: &[u16],
-    lengths: &[u8],
-    x: u64,
-    root: usize,
-    l: u32,
-) -> Descended
-    requires { Lent b keys.now n handles.now lengths.now × Node b keys.now (stored_length lengths.now) root l }
-    ensures { Reached (delimiters b keys.now) (stored_length lengths.now) x
-        (handle_value b keys.now handles.now seed3 x) root result }
-{
-    let mut node = root;
-    let mut lower = l;
-    let mut last: u32 = 63;
-    let mut probes: usize = 0;
-    while lower < last {
-        let s = probe(keys, b, n, seed3, handles, lengths, x, node, lower, last);
-        node = s.node;
-        lower = s.lower;
-        last = s.last;
-        probes += 1;
-    }
-    Descended {
-        node: node,
-        lower: lower,
-        probes: probes,
+        let mut probes: usize = 0;
+        // Each probe cuts the lengths from `lower` to `last` where their 2-fattest number stands: no range counts the turns.
+        while at.lower < at.last {
+            at = self.probe(x, at);
+            probes += 1;
+        }
+        Descended {
+            node: at.node,
+            lower: at.lower,
+            probes,
+        }
     }
 }

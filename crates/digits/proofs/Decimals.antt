@@ -1,5 +1,7 @@
 -- The decimal text of a number: its digits, how long it is, and that it is the number's alone. Assumes nothing.
-use Prim.Native.Nat.{ℕ, zero, suc, ◌+◌, ◌-◌, ◌*◌, ◌/◌, ◌%◌, ◌^◌, ◌<◌, ◌≤◌}
+use Rattle.std.proofs.Common.{Result, Ok, Err}
+use Rattle.std.specs.Result.{result_ok}
+use Prim.Native.Nat.{ℕ, zero, suc, ◌+◌, ◌-◌, ◌*◌, ◌/◌, ◌%◌, ◌^◌, ◌<◌, ◌≤◌, max}
 use native.Mathlib.Nat.{le_refl, pow-suc}
 use native.Mathlib.Decide.{dec_lt}
 use native.Mathlib.Omega.{arith}
@@ -11,10 +13,11 @@ use lib.ListN.{length, drop, get_or, length-append}
 use borrow.Author.Tests.{lt-ltb, le-ltb, le-leb, ltb-false, leb-true}
 use Rattle.basics.proofs.Bools.{differ, not_both}
 use Rattle.digits.specs.Texts.{Reads}
-use Rattle.digits.specs.Numbers.{digits_in, count_in, decimal_text, ended, is_digit, ReadsAmount, plainly}
+use Rattle.digits.specs.Numbers.{digits_in, count_in, decimal_text, ended, is_digit, ReadsAmount}
 use Rattle.digits.specs.Inner.{folded}
-use Rattle.digits.specs.declared.Amount.{Amount}
-use Rattle.digits.specs.declared.Amount.TheVariants.{Is, Over, Wrong}
+use Rattle.digits.specs.declared.Read.{Read}
+use Rattle.digits.specs.declared.Unread.{Unread}
+use Rattle.digits.specs.declared.Unread.TheVariants.{Over, Wrong}
 use Rattle.digits.proofs.Positions.{Unique}
 use Rattle.digits.proofs.Glyphs.{glyph_low, digits_length}
 
@@ -153,6 +156,32 @@ text_within (suc k) n h =
     let l = text_length n g in
     omega arith)
 
+-- a number from 10 ^ k up to the next power has k + 1 digits
+text_log : (k n : ℕ) → 10 ^ k ≤ n → n < 10 * 10 ^ k → length (decimal_text n) ≡ k + 1
+text_log zero n h g = ap length (text_small n (omega arith))
+text_log (suc k) n h g =
+    let p : 10 ^ suc k ≡ 10 ^ k * 10 = pow-suc 10 k in
+    let i = text_log k (n / 10) (omega arith) (omega arith) in
+    let q = pow_pos k in
+    let l = text_length n (omega arith) in
+    omega arith
+  where
+    pow_pos : (k : ℕ) → 0 < 10 ^ k
+    pow_pos zero = omega arith
+    pow_pos (suc k) = let p : 10 ^ suc k ≡ 10 ^ k * 10 = pow-suc 10 k in let q = pow_pos k in omega arith
+
+-- the same of the number or of 1, if it is 0
+pub text_power : (n m k : ℕ) → m ≡ max n 1 → 10 ^ k ≤ m → m < 10 * 10 ^ k → length (decimal_text n) ≡ k + 1
+text_power n m k e h g = elim (dec_lt 0 n) [
+  | yes p ↦ text_log k n (omega arith) (omega arith)
+  | no p ↦
+      let z : n ≡ 0 = omega arith in
+      let o = text_log k m h g in
+      let i : length (decimal_text n) ≡ 1 = ap length (text_small n (omega arith)) in
+      let j : length (decimal_text m) ≡ 1 = ap length (text_small m (omega arith)) in
+      omega arith
+]
+
 -- the text is as many of the digits as it is long
 pub text_count : (n : ℕ) → decimal_text n ≡ digits_in 10 (length (decimal_text n)) n
 unfolding decimal_text
@@ -222,15 +251,15 @@ decimal_unique most e h v w r q hv hw f =
     (sym (append_assoc (decimal_text v) (e ∷ []) r) ∙ f ∙ append_assoc (decimal_text w) (e ∷ []) q)).0
 
 -- ---- where a number above the limit is no better than a bad text
-pub amount_reads : (most e : ℕ) (s : List ℕ) (i : ℕ) (r : Amount) → is_digit e ≡ false
+pub amount_reads : (most e : ℕ) (s : List ℕ) (i : ℕ) (r : Result Read Unread) → is_digit e ≡ false
     → ReadsAmount most e s i r
-    → Reads most (ended decimal_text e) s i (plainly r)
+    → Reads most (ended decimal_text e) s i (result_ok r)
 unfolding ReadsAmount Reads
-amount_reads most e s i (Is v j) he c = (c.1, c.2)
-amount_reads most e s i (Over j) he c = λ w hw rest f.
+amount_reads most e s i (Ok r) he c = (c.1, c.2)
+amount_reads most e s i (Err (Over j)) he c = λ w hw rest f.
     let above : most < c.1.0 = c.1.1 in
     let same : c.1.0 ≡ w =
     decimal_unique c.1.0 e he c.1.0 w (drop j s) rest (omega arith) (omega arith)
     (sym c.1.2.from.1 ∙ f.1) in
     omega arith
-amount_reads most e s i Wrong he c = λ w hw. c w he
+amount_reads most e s i (Err Wrong) he c = λ w hw. c w he

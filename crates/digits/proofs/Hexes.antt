@@ -1,43 +1,19 @@
--- The hexadecimal text of a number: the value of a digit's byte, the number of 16 digits, and 16 digits at a position
+-- The hexadecimal text of a number: its 16 digits, one digit more, and 16 digits at a position
 -- that an end byte follows. Assumes nothing.
-use Prim.Native.Nat.{ℕ, zero, suc, ◌+◌, ◌-◌, ◌*◌, ◌/◌, ◌%◌, ◌^◌, ◌<◌, ◌≤◌}
+use Rattle.std.proofs.Common.{Some, None}
+use Prim.Native.Nat.{ℕ, zero, suc, ◌+◌, ◌*◌, ◌/◌, ◌%◌, ◌^◌, ◌<◌, ◌≤◌}
 use native.Mathlib.Nat.{pow-suc, pow-le-pow_right}
 use native.Mathlib.Numerals.{add-one}
 use native.Mathlib.Decide.{dec_lt}
 use native.Mathlib.Omega.{arith}
 use mathlib.Core.List.{List, [], ◌∷◌, ◌++◌, append_assoc}
-use mathlib.Core.Logic.{⊎_elim}
 use mathlib.Core.Path.{◌≡◌, refl, sym, ◌∙◌}
 use lib.ListN.{length, drop, get_or, length-append, get_or-append}
 use lib.Seq.{slice, slice_empty, get_or_at}
 use Rattle.digits.specs.Texts.{Has, Reads}
 use Rattle.digits.specs.Numbers.{glyph, digits_in, hex_text, ended, most_word}
-use Rattle.digits.specs.Inner.{Hexes}
-use Rattle.digits.specs.declared.Read.TheVariants.{Value, Bad}
 use Rattle.digits.proofs.Positions.{from_at, from_length, from_first, slice_snoc, slice_has, Unique}
-use Rattle.digits.proofs.Glyphs.{glyph_low, glyph_high, glyph_range, glyph_same, digits_length}
-
--- ---- one digit
-
-module _ (b w : ℕ) (e : w ≡ b) where
-  pub hexes_low : 48 ≤ w → w < 58 → Hexes b (w - 48)
-  hexes_low h g = record {
-    some = λ l. let f = glyph_low (w - 48) (omega arith) in omega arith;
-    none = λ l. absurd (omega arith);
-  }
-
-  pub hexes_high : 97 ≤ w → w < 103 → Hexes b (w - 87)
-  hexes_high h g = record {
-    some = λ l. let f = glyph_high (w - 87) (omega arith) in omega arith;
-    none = λ l. absurd (omega arith);
-  }
-
-  pub hexes_none : (48 ≤ w → 58 ≤ w) → (97 ≤ w → 103 ≤ w) → Hexes b 16
-  hexes_none h g = record {
-    some = λ l. absurd (omega arith);
-    none = λ l d k f. ⊎_elim (λ u. let z = h (omega arith) in omega arith)
-        (λ u. let z = g (omega arith) in omega arith) (glyph_range d b k f);
-  }
+use Rattle.digits.proofs.Glyphs.{glyph_same, digits_length}
 
 -- ---- 16 digits
 
@@ -124,13 +100,13 @@ module _ (s : List ℕ) (i most e : ℕ) where
   ended_length : (v : ℕ) → length (ended hex_text e v) ≡ 17
   ended_length v = let a = hex_length v in let b = length-append (hex_text v) (e ∷ []) in omega arith
 
-  pub hex_short : length s < i + 17 → Reads most (ended hex_text e) s i Bad
+  pub hex_short : length s < i + 17 → Reads most (ended hex_text e) s i None
   unfolding Reads
   hex_short h v hv rest f = let a = from_length s i (ended hex_text e v) rest f in let b = ended_length v in omega arith
 
   -- a byte that is no digit
   pub hex_none : (k : ℕ) → k < 16 → ((d : ℕ) → d ≤ 15 → glyph d ≡ get_or s (i + k) 0 → ⊥)
-      → Reads most (ended hex_text e) s i Bad
+      → Reads most (ended hex_text e) s i None
   unfolding Reads hex_text
   hex_none k h out v hv rest f =
       let w = digit_at 16 v k h in
@@ -138,7 +114,7 @@ module _ (s : List ℕ) (i most e : ℕ) where
       out w.0 w.1 (w.2 ∙ sym (from_at s i (hex_text v) ((e ∷ []) ++ rest) g k (omega (arith, hex_length v))))
 
   -- another byte after the digits
-  pub hex_open : (get_or s (i + 16) 0 ≡ e → ⊥) → Reads most (ended hex_text e) s i Bad
+  pub hex_open : (get_or s (i + 16) 0 ≡ e → ⊥) → Reads most (ended hex_text e) s i None
   unfolding Reads
   hex_open h v hv rest f =
       let n = hex_length v in
@@ -155,7 +131,7 @@ module _ (s : List ℕ) (i most e : ℕ) where
         (ended_length v ∙ omega arith)
 
     -- a number above the limit
-    pub hex_over : most < v → Reads most (ended hex_text e) s i Bad
+    pub hex_over : most < v → Reads most (ended hex_text e) s i None
     unfolding Reads
     hex_over h w hw rest f =
         let same : v ≡ w =
@@ -163,6 +139,6 @@ module _ (s : List ℕ) (i most e : ℕ) where
         (sym hex_has.from.1 ∙ f.1) in
         omega arith
 
-    pub hex_value_is : v ≤ most → Reads most (ended hex_text e) s i (Value v (i + 17))
+    pub hex_value_is : v ≤ most → Reads most (ended hex_text e) s i (Some (record { value = v; next = i + 17 }))
     unfolding Reads
     hex_value_is h = (h, hex_has)

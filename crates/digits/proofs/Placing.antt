@@ -1,15 +1,13 @@
--- Laws of a text that is put at a position: its bytes from the first or from the last, texts one after the other, and
--- what is left where nothing is written. Assumes nothing.
+-- Laws of a text that is put at a position: a byte more at its end, texts one after the other, and what is left where
+-- nothing is written. Assumes nothing.
 use Prim.Native.Nat.{ℕ, suc, ◌+◌, ◌<◌, ◌≤◌}
-use native.Mathlib.Numerals.{add-one}
 use native.Mathlib.Omega.{arith}
 use mathlib.Core.List.{List, [], ◌∷◌, ◌++◌, append_assoc}
 use mathlib.Core.Path.{◌≡◌, refl, sym, ap, ◌∙◌}
-use lib.ListN.{length, take, drop, get_or, set, length-append, length-drop, take-append-drop}
-use lib.Seq.{drop-cons, set_at, set_split, take-set-le, length-take-le, take_at, drop_at, drop-drop, take-suc}
-use Rattle.digits.specs.Texts.{placed, Writes, next_or}
-use Rattle.digits.specs.declared.Next.{Next}
-use Rattle.digits.specs.declared.Next.TheVariants.{At, Off}
+use lib.ListN.{length, take, drop, set, length-append, length-drop, take-append-drop}
+use lib.Seq.{set_split, take-set-le, length-take-le, take_at, drop_at, drop-drop}
+use Rattle.std.proofs.Common.{Option, Some, None}
+use Rattle.digits.specs.Texts.{placed, Writes}
 
 pub placed_none : (out : List ℕ) (i : ℕ) → placed out i [] ≡ out
 placed_none out i = let e : i + 0 ≡ i = omega arith in rw e (take-append-drop i out)
@@ -22,20 +20,6 @@ module _ (out : List ℕ) (i : ℕ) (t : List ℕ) where
   length_placed h =
       let a : i ≤ length out = omega arith in
       rw (length-append, length-append, length-take-le i out a, length-drop) (omega arith)
-
-  -- a byte more at the end: put after the text
-  pub placed_snoc : (b : ℕ) → i + length t < length out
-      → set (placed out i t) (i + length t) b ≡ placed out i (t ++ (b ∷ []))
-  placed_snoc b h =
-      let e : placed out i t ≡ (take i out ++ t) ++ (get_or out (i + length t) 0 ∷ drop (suc (i + length t)) out) =
-      sym (append_assoc (take i out) t (drop (i + length t) out))
-      ∙ ap (λ (l : List ℕ). (take i out ++ t) ++ l) (drop-cons out (i + length t) 0 h) in
-      let n : i + length (t ++ (b ∷ [])) ≡ suc (i + length t) =
-      (let z = length-append t (b ∷ []) in omega arith) in
-      ap (λ (l : List ℕ). set l (i + length t) b) e
-      ∙ set_at (take i out ++ t) (get_or out (i + length t) 0) (drop (suc (i + length t)) out) b (i + length t)
-      (head_length (omega arith))
-      ∙ rw n (simp append_assoc)
 
   -- a byte more at the end: put before the text
   pub placed_back : (j b : ℕ) → j ≡ i + length t → j < length out
@@ -65,76 +49,59 @@ module _ (out : List ℕ) (i : ℕ) (t : List ℕ) where
       let n : i + length (t ++ u) ≡ i + length t + length u = (let z = length-append t u in omega arith) in
       rw (a, f, n) (simp append_assoc)
 
--- the bytes of a text one by one
-pub placed_step : (out t : List ℕ) (i k : ℕ) → k < length t → i + length t ≤ length out
-    → set (placed out i (take k t)) (i + k) (get_or t k 0) ≡ placed out i (take (k + 1) t)
-placed_step out t i k h g =
-    let n : length (take k t) ≡ k = length-take-le k t (omega arith) in
-    let f : take (k + 1) t ≡ take k t ++ (get_or t k 0 ∷ []) = rw add-one (take-suc t k 0 h) in
-    ap (λ (m : ℕ). set (placed out i (take k t)) (i + m) (get_or t k 0)) (sym n)
-    ∙ placed_snoc out i (take k t) (get_or t k 0) (omega arith) ∙ ap (placed out i) (sym f)
-
-pub placed_length : (out t : List ℕ) (i k : ℕ) → k ≤ length t → i + length t ≤ length out
-    → length (placed out i (take k t)) ≡ length out
-placed_length out t i k h g =
-    length_placed out i (take k t) (let n : length (take k t) ≡ k = length-take-le k t h in omega arith)
-
 -- ---- what a writer says
 
-pub writes_off : (t out : List ℕ) (i : ℕ) → length out < i + length t → Writes t out i out Off
+pub writes_off : (t out : List ℕ) (i : ℕ) → length out < i + length t → Writes t out i out None
 unfolding Writes
 writes_off t out i h = (h, refl)
 
 pub writes_at : (t out after : List ℕ) (i j : ℕ) → j ≡ i + length t → j ≤ length out
-    → after ≡ placed out i t → Writes t out i after (At j)
+    → after ≡ placed out i t → Writes t out i after (Some j)
 unfolding Writes
 writes_at t out after i j e h f = (e, h, f)
 
 -- a writer keeps the length
-pub writes_length : (t out after : List ℕ) (i : ℕ) (r : Next) → Writes t out i after r
+pub writes_length : (t out after : List ℕ) (i : ℕ) (r : Option ℕ) → Writes t out i after r
     → length after ≡ length out
 unfolding Writes
-writes_length t out after i (At j) h =
+writes_length t out after i (Some j) h =
     let a = h.0 in let b = h.1 in ap length h.2 ∙ length_placed out i t (omega arith)
-writes_length t out after i Off h = ap length h.1
+writes_length t out after i None h = ap length h.1
 
-pub writes_next : (t out after : List ℕ) (i j : ℕ) → Writes t out i after (At j) → j ≡ i + length t
+pub writes_next : (t out after : List ℕ) (i j : ℕ) → Writes t out i after (Some j) → j ≡ i + length t
 unfolding Writes
 writes_next t out after i j h = h.0
 
 -- a text after a text that was written
-pub writes_then : (t out mid : List ℕ) (i j : ℕ) → Writes t out i mid (At j) → (u after : List ℕ) (r : Next)
+pub writes_then : (t out mid : List ℕ) (i j : ℕ) → Writes t out i mid (Some j) → (u after : List ℕ) (r : Option ℕ)
     → i + length (t ++ u) ≤ length out
     → Writes u mid j after r → Writes (t ++ u) out i after r
 unfolding Writes
-writes_then t out mid i j h u after (At k) room g =
+writes_then t out mid i j h u after (Some k) room g =
     let l = length-append t u in
     let a = h.0 in
     let b = h.1 in
     let c = g.0 in
     (omega arith, omega arith, g.2 ∙ rw (h.2, a) (placed_then out i t u (omega arith)))
-writes_then t out mid i j h u after Off room g =
+writes_then t out mid i j h u after None room g =
     let l = length-append t u in
     let a = h.0 in
     let c = g.0 in
-    let m = writes_length t out mid i (At j) h in
+    let m = writes_length t out mid i (Some j) h in
     absurd (omega arith)
 
--- with room a writer writes
-pub writes_room : (t out after : List ℕ) (i : ℕ) (r : Next) (o : ℕ) → i + length t ≤ length out
-    → Writes t out i after r
-    → Writes t out i after (At (next_or r o))
+-- no room for a text is none for the text and another
+pub writes_first : (t out after : List ℕ) (i : ℕ) → Writes t out i after None → (u : List ℕ)
+    → Writes (t ++ u) out i after None
 unfolding Writes
-writes_room t out after i (At j) o h w = w
-writes_room t out after i Off o h w = let a = w.0 in absurd (omega arith)
+writes_first t out after i h u = let l = length-append t u in let a = h.0 in (omega arith, h.1)
 
 -- in a room for both, a text and then another from the place after it
-pub writes_on : (t u out mid after : List ℕ) (i j o : ℕ) (r q : Next) → i + length (t ++ u) ≤ length out
-    → Writes t out i mid r → j ≡ next_or r o
-    → (j + length u ≤ length mid → Writes u mid j after q) → Writes (t ++ u) out i after q
-writes_on t u out mid after i j o r q room h e g =
+pub writes_on : (t u out mid after : List ℕ) (i j : ℕ) (r : Option ℕ) → i + length (t ++ u) ≤ length out
+    → Writes t out i mid (Some j)
+    → (j + length u ≤ length mid → Writes u mid j after r) → Writes (t ++ u) out i after r
+writes_on t u out mid after i j r room w g =
     let l = length-append t u in
-    let w : Writes t out i mid (At j) = rw e (writes_room t out mid i r o (omega arith) h) in
-    let m = writes_length t out mid i (At j) w in
+    let m = writes_length t out mid i (Some j) w in
     let k = writes_next t out mid i j w in
-    writes_then t out mid i j w u after q room (g (omega arith))
+    writes_then t out mid i j w u after r room (g (omega arith))

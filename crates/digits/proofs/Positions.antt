@@ -1,5 +1,6 @@
 -- Laws of what stands at a position of a text: its bytes, parts of it, texts one after the other, and texts of which
 -- none begins another. Assumes nothing.
+use Rattle.std.proofs.Common.{Option, Some, None}
 use Prim.Native.Nat.{ℕ, ◌+◌, ◌-◌, ◌<◌, ◌≤◌}
 use native.Mathlib.Numerals.{add-one}
 use native.Mathlib.Omega.{arith}
@@ -7,10 +8,9 @@ use mathlib.Core.List.{List, [], ◌∷◌, ◌++◌, append_assoc, append_cance
 use mathlib.Core.Path.{◌≡◌, refl, sym, ap, ◌∙◌}
 use lib.ListN.{length, take, drop, get_or, length-append, length-drop, drop_of_length-le, take-append-drop}
 use lib.ListN.{get_or-append}
-use lib.Seq.{get_or-drop, get_or-take, ext_get_or, length-take-le, drop-drop, drop-append-le, slice, take-take, take-suc}
+use lib.Seq.{get_or-drop, get_or-take, length-take-le, drop-append-le, slice, take-take, take-suc}
 use Rattle.digits.specs.Texts.{From, Has, Hasnt, Reads}
 use Rattle.digits.specs.declared.Read.{Read}
-use Rattle.digits.specs.declared.Read.TheVariants.{Value, Bad}
 
 -- the bytes of a text that stands at i
 module _ (s : List ℕ) (i : ℕ) (t rest : List ℕ) (f : From s i (t ++ rest)) where
@@ -23,21 +23,6 @@ module _ (s : List ℕ) (i : ℕ) (t rest : List ℕ) (f : From s i (t ++ rest))
 
   pub from_at : (k : ℕ) → k < length t → get_or s (i + k) 0 ≡ get_or t k 0
   from_at k h = sym (get_or-drop i s k 0) ∙ ap (λ (l : List ℕ). get_or l k 0) f.1 ∙ get_or-append t rest 0 k h
-
--- a text stands at i if each of its bytes does
-pub has_all : (s t : List ℕ) (i : ℕ) → i + length t ≤ length s
-    → ((k : ℕ) → k < length t → get_or s (i + k) 0 ≡ get_or t k 0) → Has s i t (i + length t)
-has_all s t i h all =
-    let room : length t ≤ length (drop i s) = omega (arith, length-drop i s) in
-    let n : length (take (length t) (drop i s)) ≡ length t = length-take-le (length t) (drop i s) room in
-    let e : take (length t) (drop i s) ≡ t =
-    ext_get_or 0 (take (length t) (drop i s)) t n
-    (λ k l. let l' : k < length t = omega arith in get_or-take (length t) (drop i s) k 0 l' ∙ get_or-drop i s k 0
-    ∙ all k l') in
-    record {
-      from = (omega arith, sym (take-append-drop (length t) (drop i s)) ∙ rw (e, drop-drop));
-      to = refl;
-    }
 
 -- a part of s is made of two, grows by a byte, and is followed by the rest of s
 pub slice_split : (s : List ℕ) (i k j : ℕ) → i ≤ k → k ≤ j → j ≤ length s
@@ -101,6 +86,10 @@ has_whole s t j h e =
     let z : drop j s ≡ [] = drop_of_length-le s {i = j} (omega arith) in
     h.from.1 ∙ ap (λ (l : List ℕ). t ++ l) z ∙ append-nil t
 
+-- a reading is its number and the position after it
+pub read_is : (r q : Read) → r.value ≡ q.value → r.next ≡ q.next → r ≡ q
+read_is r q e f = ap (λ (v : ℕ). record r { value = v }) e ∙ ap (λ (j : ℕ). record q { next = j }) f
+
 -- no text of a number up to `most` begins another's
 abbrev pub Unique : ℕ → (ℕ → List ℕ) → Type 0
 Unique most text =
@@ -122,23 +111,23 @@ module _ (most : ℕ) (text : ℕ → List ℕ) (u : Unique most text) where
       let p = unique_rest v w (drop j s) rest hv hw (sym h.from.1 ∙ f.1) in
       (p.0, (has_within s i j (text v) h, p.1))
 
-  pub read_same : (s : List ℕ) (i v j : ℕ) → Reads most text s i (Value v j) → (w : ℕ) (rest : List ℕ)
+  pub read_same : (s : List ℕ) (i : ℕ) (r : Read) → Reads most text s i (Some r) → (w : ℕ) (rest : List ℕ)
       → w ≤ most → From s i (text w ++ rest)
-      → (v ≡ w) × From s j rest
+      → (r.value ≡ w) × From s r.next rest
   unfolding Reads
-  read_same s i v j h w rest hw f = has_same s i v j w rest h.0 hw h.1 f
+  read_same s i r h w rest hw f = has_same s i r.value r.next w rest h.0 hw h.1 f
 
   -- a reader's contract leaves one result
-  pub reads_determined : (s : List ℕ) (i : ℕ) (r q : Read) → Reads most text s i r → Reads most text s i q
+  pub reads_determined : (s : List ℕ) (i : ℕ) (r q : Option Read) → Reads most text s i r → Reads most text s i q
       → r ≡ q
   unfolding Reads
-  reads_determined s i (Value v j) (Value w k) h g =
-      let e : v ≡ w = (has_same s i v j w (drop k s) h.0 g.0 h.1 g.1.from).0 in
-      let d : j ≡ k = h.1.to ∙ ap (λ (x : ℕ). i + length (text x)) e ∙ sym g.1.to in
-      cc
-  reads_determined s i (Value v j) Bad h g = absurd (g v h.0 (drop j s) h.1.from)
-  reads_determined s i Bad (Value w k) h g = absurd (h w g.0 (drop k s) g.1.from)
-  reads_determined s i Bad Bad h g = refl
+  reads_determined s i (Some r) (Some q) h g =
+      let e : r.value ≡ q.value = (has_same s i r.value r.next q.value (drop q.next s) h.0 g.0 h.1 g.1.from).0 in
+      let d : r.next ≡ q.next = h.1.to ∙ ap (λ (x : ℕ). i + length (text x)) e ∙ sym g.1.to in
+      ap Some (read_is r q e d)
+  reads_determined s i (Some r) None h g = absurd (g r.value h.0 (drop r.next s) h.1.from)
+  reads_determined s i None (Some q) h g = absurd (h q.value g.0 (drop q.next s) g.1.from)
+  reads_determined s i None None h g = refl
 
 -- a tag before the text
 pub tag_unique : (tag : List ℕ) (most : ℕ) (text : ℕ → List ℕ) → Unique most text

@@ -1,5 +1,6 @@
 -- A run of digits in a text: the number that it says digit by digit, and whether it is the text of a number that an
 -- end byte follows. Assumes nothing.
+use Rattle.std.proofs.Common.{Result, Ok, Err}
 use Prim.Native.Nat.{ℕ, suc, ◌+◌, ◌-◌, ◌*◌, ◌<◌, ◌≤◌}
 use native.Mathlib.Numerals.{add-one}
 use native.Mathlib.Decide.{dec_lt}
@@ -12,8 +13,9 @@ use lib.Seq.{slice, slice-cons, length-slice, drop-cons}
 use Rattle.digits.specs.Texts.{From, Has}
 use Rattle.digits.specs.Numbers.{decimal_text, ended, is_digit, ReadsAmount}
 use Rattle.digits.specs.Inner.{Run, folded, Limited}
-use Rattle.digits.specs.declared.Amount.{Amount}
-use Rattle.digits.specs.declared.Amount.TheVariants.{Is, Over, Wrong}
+use Rattle.digits.specs.declared.Read.{Read}
+use Rattle.digits.specs.declared.Unread.{Unread}
+use Rattle.digits.specs.declared.Unread.TheVariants.{Over, Wrong}
 use Rattle.digits.proofs.Positions.{slice_split, slice_snoc, slice_at, slice_join}
 use Rattle.digits.proofs.Decimals.{Digits, digit_range, digits_all, run_same, run_ends}
 use Rattle.digits.proofs.Decimals.{text_digits, text_some, text_run, text_zero, folded_append, folded_snoc}
@@ -79,22 +81,22 @@ module _ (s : List ℕ) (i j e : ℕ) (run : Run s i j) where
 
   -- what says that no number stands there, whatever the limit
   module _ (most : ℕ) where
-    pub none_short : length s ≤ j → ReadsAmount most e s i Wrong
+    pub none_short : length s ≤ j → ReadsAmount most e s i (Err Wrong)
     unfolding ReadsAmount
     none_short h v he rest f = let w = whole v rest he f in omega arith
 
-    pub none_other : (get_or s j 0 ≡ e → ⊥) → ReadsAmount most e s i Wrong
+    pub none_other : (get_or s j 0 ≡ e → ⊥) → ReadsAmount most e s i (Err Wrong)
     unfolding ReadsAmount
     none_other h v he rest f = h (whole v rest he f).2
 
-    pub none_empty : j ≡ i → ReadsAmount most e s i Wrong
+    pub none_empty : j ≡ i → ReadsAmount most e s i (Err Wrong)
     unfolding ReadsAmount
     none_empty h v he rest f =
         let w = (whole v rest he f).1 in
         let a : length (slice i j s) ≡ length (decimal_text v) = ap length w in
         omega (arith, length-slice i j s run.within, text_some v)
 
-    pub none_zero : get_or s i 0 ≡ 48 → i + 1 < j → ReadsAmount most e s i Wrong
+    pub none_zero : get_or s i 0 ≡ 48 → i + 1 < j → ReadsAmount most e s i (Err Wrong)
     unfolding ReadsAmount
     none_zero h g v he rest f =
         let w = (whole v rest he f).1 in
@@ -124,9 +126,9 @@ module _ (s : List ℕ) (i j e : ℕ) (run : Run s i j) where
       to = rw (run_text, length-append) (omega (arith, length-slice i j s run.within, run.order));
     }
 
-    pub run_amount : (most : ℕ) (r : Amount) → is_digit e ≡ false
+    pub run_amount : (most : ℕ) (r : Result Read Unread) → is_digit e ≡ false
         → Limited most (folded 0 (slice i j s)) (j + 1) r → ReadsAmount most e s i r
     unfolding ReadsAmount Limited
-    run_amount most (Is v k) he x = (he, rw x.0 x.1, rw (x.0, x.2) run_has)
-    run_amount most (Over k) he x = (he, (folded 0 (slice i j s), x.0, rw x.1 run_has))
-    run_amount most Wrong he x = absurd x
+    run_amount most (Ok r) he x = (he, rw x.0 x.1, rw (x.0, x.2) run_has)
+    run_amount most (Err (Over k)) he x = (he, (folded 0 (slice i j s), x.0, rw x.1 run_has))
+    run_amount most (Err Wrong) he x = absurd x

@@ -1,9 +1,10 @@
 -- What the contracts of inner functions cite: a run of digits, the number that it says, and the value of one
 -- hexadecimal digit.
-use Rattle.std.specs.Prelude.{ℕ, ◌+◌, ◌-◌, ◌*◌, ◌<◌, ◌≤◌, true, false, List, [], ◌∷◌, ◌≡◌, length, get_or}
+use Rattle.std.specs.Prelude.{ℕ, ◌+◌, ◌-◌, ◌*◌, ◌<◌, ◌≤◌, true, false, List, [], ◌∷◌, ◌≡◌, length, get_or, Option, Some, None, Result, Ok, Err}
 use Rattle.digits.specs.Numbers.{glyph, is_digit}
-use Rattle.digits.specs.declared.Amount.{Amount}
-use Rattle.digits.specs.declared.Amount.TheVariants.{Is, Over, Wrong}
+use Rattle.digits.specs.declared.Read.{Read}
+use Rattle.digits.specs.declared.Unread.{Unread}
+use Rattle.digits.specs.declared.Unread.TheVariants.{Over, Wrong}
 
 -- j is the end of the run of digits at i
 pub record Run (s : List ℕ) (i j : ℕ) : Type 0 where
@@ -18,12 +19,12 @@ folded a [] = a
 folded a (b ∷ bs) = folded (a * 10 + (b - 48)) bs
 
 -- v, if it is at most `most`, and the position j
-unfoldable pub Limited : ℕ → ℕ → ℕ → Amount → Type 0
-Limited most v j (Is w k) = (w ≡ v) × (v ≤ most) × (k ≡ j)
-Limited most v j (Over k) = (most < v) × (k ≡ j)
-Limited most v j Wrong = ⊥
+unfoldable pub Limited : ℕ → ℕ → ℕ → Result Read Unread → Type 0
+Limited most v j (Ok r) = (r.value ≡ v) × (v ≤ most) × (r.next ≡ j)
+Limited most v j (Err (Over k)) = (most < v) × (k ≡ j)
+Limited most v j (Err Wrong) = ⊥
 
--- r is the number of the hexadecimal digit b, or above 15 where b is none
-pub record Hexes (b r : ℕ) : Type 0 where
-  pub some : r ≤ 15 → glyph r ≡ b
-  pub none : 15 < r → (d : ℕ) → d ≤ 15 → glyph d ≡ b → ⊥
+-- what a reader says of the byte b that takes a hexadecimal digit: its number
+abbrev pub Hexes : ℕ → Option ℕ → Type 0
+Hexes b (Some d) = (d ≤ 15) × (glyph d ≡ b)
+Hexes b None = (d : ℕ) → d ≤ 15 → glyph d ≡ b → ⊥

@@ -1,10 +1,9 @@
 -- Document 01, "`rowcheck`": numbers in decimal without leading zeros, and as 16 lower-case hexadecimal digits.
-use Rattle.std.specs.Prelude.{ℕ, zero, suc, ◌+◌, ◌-◌, ◌/◌, ◌%◌, ◌^◌, ◌<◌, ◌≤◌, Bool, true, false, cond, List, [], ◌∷◌, ◌++◌, ◌≡◌, ltb, leb}
+use Rattle.std.specs.Prelude.{ℕ, zero, suc, ◌+◌, ◌-◌, ◌/◌, ◌%◌, ◌^◌, ◌<◌, ◌≤◌, Bool, true, false, cond, List, [], ◌∷◌, ◌++◌, ◌≡◌, ltb, leb, Result, Ok, Err}
 use Rattle.digits.specs.Texts.{Has, Hasnt}
 use Rattle.digits.specs.declared.Read.{Read}
-use Rattle.digits.specs.declared.Read.TheVariants.{Value, Bad}
-use Rattle.digits.specs.declared.Amount.{Amount}
-use Rattle.digits.specs.declared.Amount.TheVariants.{Is, Over, Wrong}
+use Rattle.digits.specs.declared.Unread.{Unread}
+use Rattle.digits.specs.declared.Unread.TheVariants.{Over, Wrong}
 
 -- the byte of a digit below 16: `0` to `9`, then `a` to `f`
 abbrev pub glyph : ℕ → ℕ
@@ -43,14 +42,9 @@ abbrev pub is_digit : ℕ → Bool
 is_digit b = cond (ltb b 48) false (leb b 57)
 
 -- what a reader says of s at i that takes a decimal number of any size and the byte e after it, which is no digit
-unfoldable pub ReadsAmount : ℕ → ℕ → List ℕ → ℕ → Amount → Type 0
-ReadsAmount most e s i (Is v j) = (is_digit e ≡ false) × (v ≤ most) × Has s i (ended decimal_text e v) j
-ReadsAmount most e s i (Over j) =
+unfoldable pub ReadsAmount : ℕ → ℕ → List ℕ → ℕ → Result Read Unread → Type 0
+ReadsAmount most e s i (Ok r) =
+    (is_digit e ≡ false) × (r.value ≤ most) × Has s i (ended decimal_text e r.value) r.next
+ReadsAmount most e s i (Err (Over j)) =
     (is_digit e ≡ false) × ((v : ℕ) × (most < v) × Has s i (ended decimal_text e v) j)
-ReadsAmount most e s i Wrong = (v : ℕ) → is_digit e ≡ false → Hasnt s i (ended decimal_text e v)
-
--- the same where a number above the limit is no better than a bad text
-abbrev pub plainly : Amount → Read
-plainly (Is v j) = Value v j
-plainly (Over j) = Bad
-plainly Wrong = Bad
+ReadsAmount most e s i (Err Wrong) = (v : ℕ) → is_digit e ≡ false → Hasnt s i (ended decimal_text e v)

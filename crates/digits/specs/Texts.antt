@@ -1,12 +1,9 @@
 -- Texts at a position of a slice of bytes, and what their readers and writers say. A text is a list of bytes, and a
 -- byte is a number.
-use Rattle.std.specs.Prelude.{ℕ, zero, suc, ◌+◌, ◌<◌, ◌≤◌, List, [], ◌∷◌, ◌++◌, ◌≡◌, length, take, drop}
+use Rattle.std.specs.Prelude.{ℕ, zero, suc, ◌+◌, ◌<◌, ◌≤◌, List, [], ◌∷◌, ◌++◌, ◌≡◌, length, take, drop, Option, Some, None}
 use Prim.Native.Char.{code}
 use Prim.Native.String.{String, len, char_at}
 use Rattle.digits.specs.declared.Read.{Read}
-use Rattle.digits.specs.declared.Read.TheVariants.{Value, Bad}
-use Rattle.digits.specs.declared.Next.{Next}
-use Rattle.digits.specs.declared.Next.TheVariants.{At, Off}
 
 -- the n characters of a text from position i on
 abbrev pub codes : String → ℕ → ℕ → List ℕ
@@ -31,9 +28,9 @@ abbrev pub Hasnt : List ℕ → ℕ → List ℕ → Type 0
 Hasnt s i t = (rest : List ℕ) → From s i (t ++ rest) → ⊥
 
 -- what a reader says of s at i that takes the text of each number up to `most`, and nothing else
-unfoldable pub Reads : ℕ → (ℕ → List ℕ) → List ℕ → ℕ → Read → Type 0
-Reads most text s i (Value v j) = (v ≤ most) × Has s i (text v) j
-Reads most text s i Bad = (v : ℕ) → v ≤ most → Hasnt s i (text v)
+unfoldable pub Reads : ℕ → (ℕ → List ℕ) → List ℕ → ℕ → Option Read → Type 0
+Reads most text s i (Some r) = (r.value ≤ most) × Has s i (text r.value) r.next
+Reads most text s i None = (v : ℕ) → v ≤ most → Hasnt s i (text v)
 
 -- out with the text t put at i
 abbrev pub placed : List ℕ → ℕ → List ℕ → List ℕ
@@ -41,11 +38,6 @@ placed out i t = take i out ++ (t ++ drop (i + length t) out)
 
 -- what a writer of the text t at i says, that got `out` and leaves `after`: it writes all of t, or nothing where
 -- there is no room
-unfoldable pub Writes : List ℕ → List ℕ → ℕ → List ℕ → Next → Type 0
-Writes t out i after (At j) = (j ≡ i + length t) × (j ≤ length out) × (after ≡ placed out i t)
-Writes t out i after Off = (length out < i + length t) × (after ≡ out)
-
--- a position that was told, or another where none was
-abbrev pub next_or : Next → ℕ → ℕ
-next_or (At j) i = j
-next_or Off i = i
+unfoldable pub Writes : List ℕ → List ℕ → ℕ → List ℕ → Option ℕ → Type 0
+Writes t out i after (Some j) = (j ≡ i + length t) × (j ≤ length out) × (after ≡ placed out i t)
+Writes t out i after None = (length out < i + length t) × (after ≡ out)

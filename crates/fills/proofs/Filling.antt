@@ -14,9 +14,9 @@ use native.Mathlib.Omega.{arith}
 use lib.ListN.{length, get_or, set}
 use lib.Seq.{get_or-set_same, get_or-set_other}
 use lib.Bits.{bit_xor}
-use Rattle.words.proofs.Xor.{xor-sort}
+use Rattle.words.proofs.Xor.{xor-sort, xor_assoc}
 use Rattle.cells.specs.Cells.{value_at}
-use Rattle.counts.specs.declared.Map.{Map}
+use Rattle.counts.specs.declared.map.Map.{Map}
 use Rattle.jams.specs.Jam.{Touches}
 use Rattle.jams.specs.Inner.Peel.{live}
 use Rattle.jams.specs.Inner.Work.{Blank, Beyond, Spread, turn_item, turn_cell}
@@ -73,24 +73,24 @@ value_there e cells j c v h =
 
 -- the store of `fill_turn`: i and c are the turn's item and cell as they were read, h its hash, v its value before and
 -- y the wanted one
-pub store_fixes : (map : Map) (keys w b : List ℕ) (p i c h v y : ℕ) → i ≡ turn_item (3 * map.m) map.t w p
+pub store_fixes : (map : Map) (w b : List ℕ) (p i c h v y : ℕ) → i ≡ turn_item (3 * map.m) map.t w p
     → c ≡ turn_cell (3 * map.m) map.t w p
-    → h ≡ hash_of map keys i → v ≡ value_at map.m b h → y ≡ wanted map keys i
-    → set b c (bit_xor (bit_xor (get_or b c 0) y) v) ≡ fixed map keys w b p
+    → h ≡ hash_of map i → v ≡ value_at map.m b h → y ≡ wanted map i
+    → set b c (bit_xor (get_or b c 0) (bit_xor y v)) ≡ fixed map w b p
 unfolding value_of value_at
-store_fixes map keys w b p i c h v y ei ec eh ev ey = rw (ev, ey, eh, ec, ei)
+store_fixes map w b p i c h v y ei ec eh ev ey = rw (← xor_assoc (get_or b c 0) y v, ev, ey, eh, ec, ei)
 
 -- what the loop of `fill_all` keeps: the items of the turns from p on have their values, and only cells that items
 -- touch have changed
-pub record FilledFrom (map : Map) (keys w : List ℕ) (p : ℕ) (a b : List ℕ) : Type 0 where
+pub record FilledFrom (map : Map) (w : List ℕ) (p : ℕ) (a b : List ℕ) : Type 0 where
   pub valued : (q : ℕ) → p ≤ q → q < map.t
-      → value_of (graph map keys) b (turn_item (3 * map.m) map.t w q)
-      ≡ wanted map keys (turn_item (3 * map.m) map.t w q)
-  pub clean : Clean (graph map keys) map.t (3 * map.m) b
+      → value_of (graph map) b (turn_item (3 * map.m) map.t w q)
+      ≡ wanted map (turn_item (3 * map.m) map.t w q)
+  pub clean : Clean (graph map) map.t (3 * map.m) b
   pub beyond : Beyond (3 * map.m) a b
 
 -- all items are peeled
-module _ {map : Map} {keys left right w : List ℕ} (A : AtTurn map keys left right w map.t map.t) where
+module _ {map : Map} {w : List ℕ} (A : AtTurn map w map.t map.t) where
   abbrev Items : ℕ → ℕ
   Items = turn_item (3 * map.m) map.t w
 
@@ -98,54 +98,54 @@ module _ {map : Map} {keys left right w : List ℕ} (A : AtTurn map keys left ri
   Cells = turn_cell (3 * map.m) map.t w
 
   -- an item peeled later does not touch the cell of turn p
-  later : (p q : ℕ) → p < q → q < map.t → Touches (graph map keys) (Items q) (Cells p) → ⊥
+  later : (p q : ℕ) → p < q → q < map.t → Touches (graph map) (Items q) (Cells p) → ⊥
   later p q l k h =
       let o = A.peeled.order in
       let left : live Items p (Items q) ≡ true = live_le Items p q (Items q) (omega arith) (o.fresh q k) in
       live_not Items q (Items q) (o.fresh q k) p l (sym (o.alone p (omega arith) (Items q) (o.small q k) left h))
 
-  item_spread : (i : ℕ) → Spread (graph map keys) (3 * map.m) i
-  item_spread i = spread map.m (hash_of map keys) i A.ready.fits
+  item_spread : (i : ℕ) → Spread (graph map) (3 * map.m) i
+  item_spread i = spread map.m (hash_of map) i map.fits
 
   pub cell_below : (p : ℕ) → p < map.t → Cells p < 3 * map.m
   cell_below p l = touch_below (Cells p) (item_spread (Items p)) (A.peeled.order.here p l)
 
-  pub fill_none : (p : ℕ) {a : List ℕ} → map.t ≤ p → Blank (3 * map.m) a → FilledFrom map keys w p a a
+  pub fill_none : (p : ℕ) {a : List ℕ} → map.t ≤ p → Blank (3 * map.m) a → FilledFrom map w p a a
   unfolding Clean
   fill_none p m h =
       record { valued = λ q l n. absurd (omega arith); clean = λ k l u. h.zeros k l; beyond = λ k l. refl }
 
-  pub turn : {p : ℕ} {a b b' : List ℕ} → p < map.t → 3 * map.m ≤ length b → FilledFrom map keys w (p + 1) a b
-      → b' ≡ fixed map keys w b p
-      → FilledFrom map keys w p a b'
+  pub turn : {p : ℕ} {a b b' : List ℕ} → p < map.t → 3 * map.m ≤ length b → FilledFrom map w (p + 1) a b
+      → b' ≡ fixed map w b p
+      → FilledFrom map w p a b'
   unfolding Clean
   turn {p} {a} {b} pt l F z =
-      let e = graph map keys in
+      let e = graph map in
       let o = A.peeled.order in
       let i = Items p in
       let c = Cells p in
-      let v = fix e b i c (wanted map keys i) in
+      let v = fix e b i c (wanted map i) in
       let below : c < 3 * map.m = cell_below p pt in
       rw z (record {
         valued = λ q pq qt.
             ⊎_elim
             (λ (x : p ≡ q).
-            rw (← x) (value_here e b i c (wanted map keys i) (item_spread i) (omega arith) (o.here p pt)))
+            rw (← x) (value_here e b i c (wanted map i) (item_spread i) (omega arith) (o.here p pt)))
             (λ (x : p < q). value_there e b (Items q) c v (later p q x qt) ∙ F.valued q (omega arith) qt)
             (eq-or-lt_of_le pq);
         clean = λ k m u. get_or-set_other b c k v 0 (λ x. u i (o.small p pt) (rw x (o.here p pt))) ∙ F.clean k m u;
         beyond = λ k m. get_or-set_other b c k v 0 (λ x. omega arith) ∙ F.beyond k m;
       })
 
-  pub fill_all : {a b : List ℕ} → FilledFrom map keys w 0 a b → FilledAll map keys a b
+  pub fill_all : {a b : List ℕ} → FilledFrom map w 0 a b → FilledAll map a b
   unfolding Valued
   fill_all {a} {b} F =
       record {
         valued = λ i l.
             let r : (p : ℕ) × (p < map.t) × (Items p ≡ i) =
             live_out Items map.t i
-            (none_left (graph map keys) map.t Items Cells map.t A.peeled.order refl i l) in
-            subst (λ (j : ℕ). value_of (graph map keys) b j ≡ wanted map keys j) r.2
+            (none_left (graph map) map.t Items Cells map.t A.peeled.order refl i l) in
+            subst (λ (j : ℕ). value_of (graph map) b j ≡ wanted map j) r.2
             (F.valued r.0 (omega arith) r.1);
         clean = F.clean;
         beyond = F.beyond;

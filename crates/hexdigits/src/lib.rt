@@ -7,62 +7,45 @@ ghost use Rattle.digits.specs.Texts.{Reads, Writes};
 ghost use Rattle.digits.specs.Numbers.{hex_text, ended};
 ghost use Rattle.digits.specs.Inner.{Hexes};
 
-use digits::{Next, Read, put};
+use digits::{Read, put};
 
-// The number of a lower-case hexadecimal digit, or 16.
-fn hex_value(b: u8) -> u64
+// The number of a lower-case hexadecimal digit.
+fn hex_value(b: u8) -> Option<u64>
     ensures { Hexes b result }
 {
-    let w = put::wide(b);
-    if w < 48 {
-        return 16;
+    match b {
+        b'0'..=b'9' => Some(u64::from(b - b'0')),
+        b'a'..=b'f' => Some(u64::from(b - b'a' + 10)),
+        _ => None,
     }
-    if w < 58 {
-        return w - 48;
-    }
-    if w < 97 {
-        return 16;
-    }
-    if w < 103 {
-        return w - 87;
-    }
-    16
 }
 
 // The 16 hexadecimal digits at i of a number up to `most`, and the byte `end` after them.
-pub fn read_hex(s: &[u8], i: usize, most: u64, end: u8) -> Read
+pub fn read_hex(s: &[u8], i: usize, most: u64, end: u8) -> Option<Read>
     ensures { Reads most (ended hex_text end) s.now i result }
 {
-    if s.len() < i {
-        return Read::Bad;
+    if s.len().checked_sub(i)? < 17 {
+        return None;
     }
-    if s.len() - i < 17 {
-        return Read::Bad;
-    }
-    let mut k: usize = 0;
-    let mut v: u64 = 0;
-    while k < 16 {
-        let d = hex_value(s[i + k]);
-        if 15 < d {
-            return Read::Bad;
-        }
-        v = v * 16 + d;
-        k += 1;
+    let mut value: u64 = 0;
+    for b in &s[i..i + 16] {
+        let d = hex_value(*b)?;
+        value = value * 16 + d;
     }
     if s[i + 16] != end {
-        return Read::Bad;
+        return None;
     }
-    if most < v {
-        return Read::Bad;
+    if most < value {
+        return None;
     }
-    Read::Value {
-        value: v,
+    Some(Read {
+        value,
         next: i + 17,
-    }
+    })
 }
 
 // Puts v as 16 hexadecimal digits and the byte `end` at i.
-pub fn write_hex(out: &mut [u8], i: usize, v: u64, end: u8) -> Next
+pub fn write_hex(out: &mut [u8], i: usize, v: u64, end: u8) -> Option<usize>
     ensures { Writes (ended hex_text end v) out.old i out.new result }
 {
     put::write_digits(out, i, 16, 16, v, end)

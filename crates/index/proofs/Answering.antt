@@ -10,14 +10,13 @@ use native.Mathlib.Omega.{arith}
 use borrow.Author.Tests.{ltb-true, eqb-true}
 use lib.Dec.{eqb, ltb}
 use lib.ListN.{length}
+use Rattle.std.specs.Prelude.{Option, Some, None}
 use Rattle.basics.proofs.Bools.{both, by_test, differ, not_both}
 use Rattle.refusals.specs.Numbers.{taken}
 use Rattle.tables.specs.Tables.{key_at, Table, smaller}
 use Rattle.stores.specs.Stores.{Stores, Seeds}
 use Rattle.tables.proofs.Rising.{keys_above}
 use Rattle.outcomes.specs.Outcomes.{marked}
-use Rattle.outcomes.specs.declared.Located.{Located}
-use Rattle.outcomes.specs.declared.Located.TheVariants.{At, Nowhere}
 use Rattle.callask.specs.Ask.{outcome, rule_says}
 use Rattle.callask.proofs.Asking.{says_rule}
 use Rattle.callask.proofs.Answers.{rule_nowhere}
@@ -51,23 +50,23 @@ planned_told found none keys T r h =
     ∙ ap found (row_smaller keys T r h)
 
 -- x's row in the table is a row exactly if x stands there ..
-told_row : (s : Bool) {c r : ℕ} → cond s (At c) Nowhere ≡ At r → (s ≡ true) × (c ≡ r)
+told_row : (s : Bool) {c r : ℕ} → cond s (Some c) None ≡ Some r → (s ≡ true) × (c ≡ r)
 told_row true e = (refl, cc)
 told_row false e = differ (cc)
 
 module _ (keys : List ℕ) (T : Table keys) where
-  pub row_at : (x r : ℕ) → (row_of At Nowhere keys x ≡ At r) ↔ ((r < length keys) × (key_at keys r ≡ x))
+  pub row_at : (x r : ℕ) → (row_of Some None keys x ≡ Some r) ↔ ((r < length keys) × (key_at keys r ≡ x))
   row_at x r = (
     (λ e.
         let c = smaller keys x in
         let p = told_row (stands_at keys x c) e in
         let q = both (ltb c (length keys)) (eqb (key_at keys c) x) p.0 in
         (rw p.1 at (ltb-true c (length keys) q.0), rw p.1 at (eqb-true (key_at keys c) x q.1))),
-    (λ p. rw (← p.1) (planned_told At Nowhere keys T r p.0)),
+    (λ p. rw (← p.1) (planned_told Some None keys T r p.0)),
   )
 
   -- .. and nowhere exactly if it stands in no row
-  pub row_nowhere : (x : ℕ) → (row_of At Nowhere keys x ≡ Nowhere) ↔ NotIn x keys
+  pub row_nowhere : (x : ℕ) → (row_of Some None keys x ≡ None) ↔ NotIn x keys
   row_nowhere x = (
     (λ e r h k. let at = (row_at x r).1 (h, k) in differ (cc)),
     (λ none. by_test (stands_at keys x (smaller keys x))
@@ -76,8 +75,8 @@ module _ (keys : List ℕ) (T : Table keys) where
   )
 
   -- so a rule that finds each key of the table in its row, and any other key nowhere, finds what the table says
-  pub rule_by_table : (rule : ℕ → Located) → ((r : ℕ) → r < length keys → rule (key_at keys r) ≡ At r)
-      → ((x : ℕ) → NotIn x keys → rule x ≡ Nowhere) → (x : ℕ) → rule x ≡ row_of At Nowhere keys x
+  pub rule_by_table : (rule : ℕ → Option ℕ) → ((r : ℕ) → r < length keys → rule (key_at keys r) ≡ Some r)
+      → ((x : ℕ) → NotIn x keys → rule x ≡ None) → (x : ℕ) → rule x ≡ row_of Some None keys x
   rule_by_table rule found nowhere x =
       by_test (stands_at keys x (smaller keys x))
       (λ stands.
@@ -97,7 +96,7 @@ module _ {keys : List ℕ} {b : ℕ} {s : Seeds} {S S' : Stores} (B : FullBuilt 
   by_rule bytes long x = says_rule keys bytes b s.one s.two S'.cells x (accepted_askable A) long
 
   -- and the rule tells the row in the table
-  pub rule_is : Words keys → (x : ℕ) → rule_says keys b s.one s.two S'.cells x ≡ row_of At Nowhere keys x
+  pub rule_is : Words keys → (x : ℕ) → rule_says keys b s.one s.two S'.cells x ≡ row_of Some None keys x
   rule_is w =
       rule_by_table keys (accepted_table A w) (rule_says keys b s.one s.two S'.cells)
       (planned_row keys b s.one s.two S.cells S'.cells (accepted_sorted A w) A.filled.call)

@@ -6,6 +6,7 @@ use mathlib.Core.Logic.{inl, inr, ⊎_elim}
 use Prim.Native.Nat.{ℕ, ◌<◌}
 use native.Mathlib.Omega.{arith}
 use lib.ListN.{length}
+use Rattle.std.specs.Prelude.{Some, None}
 use Rattle.tables.specs.Tables.{smaller}
 use Rattle.tables.specs.Delimiters.{delimiters}
 use Rattle.stores.specs.Stores.{sizes_of}
@@ -15,7 +16,6 @@ use Rattle.jams.specs.Jam.{Jamless, LargestJam}
 use Rattle.jams.proofs.Jams.{jamless_not_jammed}
 use Rattle.jams.proofs.Largest.{largest_is_there, largest_jammed, largest_some}
 use Rattle.outcomes.specs.Outcomes.{marked}
-use Rattle.outcomes.specs.declared.Located.TheVariants.{At, Nowhere}
 use Rattle.places.specs.Said.{stands_at}
 use Rattle.neighbour.proofs.Asking.{walk_says_six}
 use Rattle.slimstores.specs.Sizes.{slim_build_sizes}
@@ -111,7 +111,7 @@ slim_tells keys b seed₁ seed₃ S S' w B bytes long x h =
 pub slim_agrees : SlimAgrees
 slim_agrees keys w b s S S' B c seed₁ seed₃ R R' C bytes long x =
     let D = delimiters c keys in (
-      marked bytes (row_of At Nowhere keys x),
+      marked bytes (row_of Some None keys x),
       (
         calls_answer B w bytes long x,
         (smaller D x, (probes_of D x, (stands_at D x (smaller D x), slim_answers C w bytes long x))),
@@ -145,7 +145,7 @@ slim_monotone keys b seed₁ seed₃ S S' w B bytes bytes' x y i j e f =
 pub slim_search_is_exact : SlimSearchIsExact
 slim_search_is_exact keys b seed₁ seed₃ S S' w two B bytes long x h =
     searched (delimiters b keys) seed₃ S' (slim_stored B) (slim_delimiters B w) x
-    (marked bytes (row_of At Nowhere keys x), slim_answers B w bytes long x)
+    (marked bytes (row_of Some None keys x), slim_answers B w bytes long x)
 
 pub slim_walks_agree : SlimWalksAgree
 slim_walks_agree keys b seed₁ seed₃ S S' w B =

@@ -7,6 +7,7 @@ use mathlib.Core.Logic.{◌↔◌}
 use Prim.Native.Nat.{ℕ, ◌+◌, ◌*◌, ◌/◌, ◌%◌, ◌≤◌, ◌<◌, zero-le}
 use native.Mathlib.Omega.{arith}
 use lib.ListN.{length}
+use Rattle.std.specs.Prelude.{Option, Some, None}
 use Rattle.refusals.specs.Numbers.{taken}
 use Rattle.cells.specs.Cells.{map_value}
 use Rattle.tables.specs.Tables.{key_at, Table, smaller}
@@ -18,8 +19,6 @@ use Rattle.stores.specs.declared.Sizes.{Sizes}
 use Rattle.stores.proofs.Limiting.{Within}
 use Rattle.items.proofs.Values.{row_is, offset_is, row_bucket}
 use Rattle.outcomes.specs.Outcomes.{Told, row_says, marked}
-use Rattle.outcomes.specs.declared.Located.{Located}
-use Rattle.outcomes.specs.declared.Located.TheVariants.{At, Nowhere}
 use Rattle.outcomes.proofs.Standing.{row_found}
 use Rattle.places.specs.Said.{NeighbourSaid, place, stands_at, walk_says}
 use Rattle.neighbour.proofs.Asking.{stored_says}
@@ -58,7 +57,7 @@ other_bytes S bytes bytes' F long = record {
 
 module _ (keys : List ℕ) (b seed₁ seed₃ : ℕ) (S : Stores) (x : ℕ) where
   -- what is found in a bucket
-  abbrev in_bucket : ℕ → Located
+  abbrev in_bucket : ℕ → Option ℕ
   in_bucket c = bucket_says keys b seed₁ S.cells x c
 
   abbrev walks : NeighbourSaid
@@ -81,7 +80,7 @@ module _ (keys : List ℕ) (b seed₁ seed₃ : ℕ) (S : Stores) (x : ℕ) wher
 
   -- so a row that is told is one in which x is found, and other bytes make of it what they say
   pub slim_at : (bytes : List ℕ) (r : ℕ) → InRow (SlimTold keys bytes b seed₁ seed₃ S x) r
-      → (c : ℕ) × (in_bucket c ≡ At r) × ((bytes' : List ℕ) → length keys ≤ length bytes'
+      → (c : ℕ) × (in_bucket c ≡ Some r) × ((bytes' : List ℕ) → length keys ≤ length bytes'
       → Marks bytes' (in_bucket c) (SlimTold keys bytes' b seed₁ seed₃ S x))
   slim_at bytes r e =
       let t = one_told {says = SlimTold keys bytes b seed₁ seed₃ S x} r e in
@@ -141,7 +140,7 @@ module _ {keys : List ℕ} {b seed₁ seed₃ : ℕ} {S S' : Stores} (B : SlimBu
 
   -- the key of row r is found in row r: the walk counts its bucket, and the map gives its offset
   in_its_bucket : Words keys → (r : ℕ) → r < length keys
-      → bucket_says keys b seed₁ S'.cells (key_at keys r) (smaller D (key_at keys r)) ≡ At r
+      → bucket_says keys b seed₁ S'.cells (key_at keys r) (smaller D (key_at keys r)) ≡ Some r
   in_its_bucket w r h =
       let x = key_at keys r in
       let offset : map_value S'.cells (length keys) seed₁ x ≡ r % b =
@@ -153,14 +152,14 @@ module _ {keys : List ℕ} {b seed₁ seed₃ : ℕ} {S S' : Stores} (B : SlimBu
       ∙ ap (λ (q : ℕ). row_says keys q x) at ∙ row_found keys x r h refl)
 
   -- so what is found in the bucket that the walk counts is what the table says
-  pub bucket_is : Words keys → (x : ℕ) → bucket_says keys b seed₁ S'.cells x (smaller D x) ≡ row_of At Nowhere keys x
+  pub bucket_is : Words keys → (x : ℕ) → bucket_says keys b seed₁ S'.cells x (smaller D x) ≡ row_of Some None keys x
   bucket_is w =
       rule_by_table keys (slim_table w) (λ x. bucket_says keys b seed₁ S'.cells x (smaller D x)) (in_its_bucket w)
       (λ x none. bucket_nowhere keys b seed₁ S'.cells x (smaller D x) none)
 
   pub slim_answers : Words keys → (bytes : List ℕ) → length keys ≤ length bytes → (x : ℕ)
       → slim_says keys bytes b seed₁ seed₃ S' x
-      ≡ told (marked bytes (row_of At Nowhere keys x)) (smaller D x) (probes_of D x) (stands_at D x (smaller D x))
+      ≡ told (marked bytes (row_of Some None keys x)) (smaller D x) (probes_of D x) (stands_at D x (smaller D x))
   slim_answers w bytes long x =
       let P = A.passed in
       let W : Within (length keys) b = record { few = P.few; two = P.two; most = P.most } in

@@ -9,13 +9,12 @@ use native.Mathlib.Omega.{arith}
 use borrow.Author.Tests.{eqb-true, eqb-false}
 use lib.Dec.{eqb}
 use lib.ListN.{length, get_or}
+use Rattle.std.specs.Prelude.{Option, Some, None}
 use Rattle.basics.proofs.Bools.{by_test}
 use Rattle.tables.specs.Tables.{key_at, Table}
 use Rattle.tables.proofs.Rising.{keys_rise, keys_above}
 use Rattle.stores.specs.Stores.{Stores, Seeds}
 use Rattle.outcomes.specs.Outcomes.{Told, planned, withdrawn, absent, marked}
-use Rattle.outcomes.specs.declared.Located.{Located}
-use Rattle.outcomes.specs.declared.Located.TheVariants.{At, Nowhere}
 use Rattle.outcomes.proofs.Marking.{planned_iff, withdrawn_iff, absent_iff}
 use Rattle.callask.specs.Ask.{CallSaid, outcome, rule_says}
 use Rattle.callask.specs.Inner.{Askable}
@@ -28,23 +27,23 @@ use Rattle.index.proofs.Accepted.{full_accepted, accepted_table}
 use Rattle.index.proofs.Answering.{row_smaller, row_at, row_nowhere, by_rule, calls_answer}
 
 -- what is told is what the byte makes of the row in which x is found, and nothing else
-abbrev pub Marks : List ℕ → Located → (Told → Type 0) → Type 0
+abbrev pub Marks : List ℕ → Option ℕ → (Told → Type 0) → Type 0
 Marks bytes at says = (t : Told) → says t ↔ (marked bytes at ≡ t)
 
-module _ (bytes : List ℕ) {at : Located} {says : Told → Type 0} (M : Marks bytes at says) where
-  told_planned : (r : ℕ) → says (planned r) ↔ ((at ≡ At r) × (get_or bytes r 0 ≡ 0))
+module _ (bytes : List ℕ) {at : Option ℕ} {says : Told → Type 0} (M : Marks bytes at says) where
+  told_planned : (r : ℕ) → says (planned r) ↔ ((at ≡ Some r) × (get_or bytes r 0 ≡ 0))
   told_planned r = Iff.trans (M (planned r)) (planned_iff bytes at r)
 
-  told_withdrawn : (r : ℕ) → says (withdrawn r) ↔ ((at ≡ At r) × (get_or bytes r 0 ≡ 0 → ⊥))
+  told_withdrawn : (r : ℕ) → says (withdrawn r) ↔ ((at ≡ Some r) × (get_or bytes r 0 ≡ 0 → ⊥))
   told_withdrawn r = Iff.trans (M (withdrawn r)) (withdrawn_iff bytes at r)
 
   -- either way x is found in the row that is told
-  pub told_at : (r : ℕ) → InRow says r → at ≡ At r
+  pub told_at : (r : ℕ) → InRow says r → at ≡ Some r
   told_at r (inl e) = ((told_planned r).0 e).0
   told_at r (inr e) = ((told_withdrawn r).0 e).0
 
   -- and the row in which it is found is told one way or the other, by its byte
-  pub by_its_byte : (r : ℕ) → at ≡ At r → ByItsByte bytes says r
+  pub by_its_byte : (r : ℕ) → at ≡ Some r → ByItsByte bytes says r
   by_its_byte r is = (
     by_test (eqb (get_or bytes r 0) 0)
         (λ z. inl ((told_planned r).1 (is, eqb-true (get_or bytes r 0) 0 z)))
@@ -54,8 +53,8 @@ module _ (bytes : List ℕ) {at : Located} {says : Told → Type 0} (M : Marks b
 
 -- whatever tells what the byte makes of x's row in the table tells as request Eight reads demand 2
 module _ (keys bytes : List ℕ) (T : Table keys) (x : ℕ) {says : Told → Type 0}
-    (M : Marks bytes (row_of At Nowhere keys x) says) where
-  in_its_row : {A B : Type 0} (r : ℕ) → A ↔ ((row_of At Nowhere keys x ≡ At r) × B)
+    (M : Marks bytes (row_of Some None keys x) says) where
+  in_its_row : {A B : Type 0} (r : ℕ) → A ↔ ((row_of Some None keys x ≡ Some r) × B)
       → A ↔ ((r < length keys) × (key_at keys r ≡ x) × B)
   in_its_row r f =
       let at = row_at keys T x r in (
@@ -68,7 +67,7 @@ module _ (keys bytes : List ℕ) (T : Table keys) (x : ℕ) {says : Told → Typ
     as_planned = λ r. in_its_row r (told_planned bytes M r);
     as_withdrawn = λ r. in_its_row r (told_withdrawn bytes M r);
     as_absent =
-        Iff.trans (M absent) (Iff.trans (absent_iff bytes (row_of At Nowhere keys x)) (row_nowhere keys T x));
+        Iff.trans (M absent) (Iff.trans (absent_iff bytes (row_of Some None keys x)) (row_nowhere keys T x));
   }
 
 -- some outcome is told where a row is
@@ -89,7 +88,7 @@ says_one : {said : CallSaid} {o : Told} → said ≡ outcome o → (t : Told) �
 says_one is t = ((λ e. one_outcome (sym is ∙ e)), (λ m. is ∙ ap outcome m))
 
 module _ (keys : List ℕ) (b : ℕ) (s : Seeds) (S : Stores) (x : ℕ) where
-  abbrev rule : Located
+  abbrev rule : Option ℕ
   rule = rule_says keys b s.one s.two S.cells x
 
   -- with room for the ask it is what the byte makes of the rule's row
@@ -98,7 +97,7 @@ module _ (keys : List ℕ) (b : ℕ) (s : Seeds) (S : Stores) (x : ℕ) where
   call_marks bytes A long = says_one (says_rule keys bytes b s.one s.two S.cells x A long)
 
   -- and where a row is told there was room, and the rule finds x there
-  call_at : (bytes : List ℕ) (r : ℕ) → InRow (CallTold keys bytes b s S x) r → Askable keys b S.cells × (rule ≡ At r)
+  call_at : (bytes : List ℕ) (r : ℕ) → InRow (CallTold keys bytes b s S x) r → Askable keys b S.cells × (rule ≡ Some r)
   call_at bytes r e =
       let t = one_told {says = CallTold keys bytes b s S x} r e in
       let R = says_told keys bytes b s.one s.two S.cells x t.0 t.1 in

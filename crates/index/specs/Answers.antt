@@ -1,6 +1,6 @@
 -- What both indexes answer, from the table and the row bytes alone: demands 2 and 3 and what rowcheck prints stand on
 -- it.
-use Rattle.std.specs.Prelude.{◌≡◌, cond, List, ℕ, ◌^◌, ◌≤◌, ◌<◌, length, get_or}
+use Rattle.std.specs.Prelude.{◌≡◌, cond, Some, None, List, ℕ, ◌^◌, ◌≤◌, ◌<◌, length, get_or}
 use Rattle.refusals.specs.Numbers.{taken}
 use Rattle.words.specs.Keys.{prefix_item}
 use Rattle.cells.specs.Cells.{map_value}
@@ -8,7 +8,6 @@ use Rattle.tables.specs.Tables.{key_at, smaller}
 use Rattle.tables.specs.Lengths.{handle_count}
 use Rattle.stores.specs.Stores.{Stores, Seeds}
 use Rattle.outcomes.specs.Outcomes.{marked}
-use Rattle.outcomes.specs.declared.Located.TheVariants.{At, Nowhere}
 use Rattle.callask.specs.Ask.{CallSaid, outcome, call_says}
 use Rattle.splits.specs.Splits.{len}
 use Rattle.walks.specs.Walk.{Walk, walk, path_walk, store_walk}
@@ -49,7 +48,7 @@ probes_of keys x = length (path_walk keys x).probed
 abbrev pub CallsAnswer : List ℕ → ℕ → Seeds → Stores → Type 0
 CallsAnswer keys b s S =
     (bytes : List ℕ) → length keys ≤ length bytes → (x : ℕ)
-    → call_over keys bytes b s S x ≡ outcome (marked bytes (row_of At Nowhere keys x))
+    → call_over keys bytes b s S x ≡ outcome (marked bytes (row_of Some None keys x))
 
 -- the neighbour index answers every key by the number of smaller keys, the probes of the walk, and whether it stands
 -- in the table

@@ -1,6 +1,6 @@
 -- Request One, with Five, Six and Eight: the customer's demands on the slim profile, in his order. proofs/{Slim,Worked}
 -- prove them.
-use Rattle.std.specs.Prelude.{◌≡◌, Bool, List, ◌⊎◌, ◌↔◌, ℕ, ◌/◌, ◌^◌, ◌≤◌, ◌<◌, length}
+use Rattle.std.specs.Prelude.{◌≡◌, Bool, Some, None, List, ◌⊎◌, ◌↔◌, ℕ, ◌/◌, ◌^◌, ◌≤◌, ◌<◌, length}
 use Rattle.refusals.specs.Numbers.{BuildSaid, taken, number_said, jam_said}
 use Rattle.tables.specs.Tables.{key_at, smaller}
 use Rattle.tables.specs.Delimiters.{delimiters}
@@ -9,7 +9,6 @@ use Rattle.stores.specs.Stores.{Stores, Seeds, sizes_of}
 use Rattle.items.specs.Items.{handle_items}
 use Rattle.jams.specs.Jam.{Jammed, LargestJam}
 use Rattle.outcomes.specs.Outcomes.{Told, marked}
-use Rattle.outcomes.specs.declared.Located.TheVariants.{At, Nowhere}
 use Rattle.places.specs.Said.{stands_at}
 use Rattle.full.specs.Build.{FullBuilt}
 use Rattle.slimstores.specs.Sizes.{slim_build_sizes}
@@ -64,7 +63,7 @@ SlimBuildAnswers =
     → (bytes : List ℕ) → length keys ≤ length bytes → (x : ℕ)
     → let D = delimiters b keys in
     slim_says keys bytes b seed₁ seed₃ S' x
-    ≡ told (marked bytes (row_of At Nowhere keys x)) (smaller D x) (probes_of D x) (stands_at D x (smaller D x))
+    ≡ told (marked bytes (row_of Some None keys x)) (smaller D x) (probes_of D x) (stands_at D x (smaller D x))
 
 -- Demand 2, as request Eight reads it: planned keys and all others get its answers
 abbrev pub SlimTells : Type 0

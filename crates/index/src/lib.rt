@@ -6,12 +6,12 @@
 // specs/Worked.antt the worked cases of document 01; proofs/ proves them.
 #![tactic(auto)]
 
-pub use call::{CallAnswer, call_ask};
-pub use callkey::{Fields, Packed, Unpacked, pack, unpack};
+pub use call::call_ask;
+pub use callkey::{Fields, pack, unpack};
 pub use full::full_build;
-pub use neighbour::{NeighbourAnswer, Place, neighbour_ask};
+pub use neighbour::{Place, neighbour_ask};
 pub use outcomes::Outcome;
-pub use refusals::{Refusal, Verdict};
+pub use refusals::{Jam, Refusal, Reported, StaticMap, Store, Unbuilt, Verdict};
 pub use slim::{SlimAnswer, slim_ask, slim_build, slim_lengths};
-pub use stores::{Lend, Sizes, named_lengths};
+pub use stores::{Sizes, named_lengths};
 pub use tables::bucket::bucket_view;

@@ -46,12 +46,12 @@ module _ (b : ℕ) (T left right : List ℕ) (k : Bounds b T left right) where
     split_beside_told = rw (k.left_is 0 (omega arith), left_root (delimiters b T))
 
     -- the stores hold its bounds, and it is not the root
-    pub split_bounded : Bounded b T left right (handle_split (delimiters b T) i) × (handle_split (delimiters b T) i ≡ root (delimiters b T) → ⊥)
+    pub split_bounded : Bounded (delimiters b T) left right (handle_split (delimiters b T) i) × (handle_split (delimiters b T) i ≡ root (delimiters b T) → ⊥)
     split_bounded =
         let m = handle_split (delimiters b T) i in
         let ok = split_ok (delimiters b T) i h in
-        let split : SplitOf b T m = record { bucketed = k.bucketed; pos = ok.0; small = ok.1 } in
-        let rising : Rising b T m =
+        let split : SplitOf (delimiters b T) m = record { pos = ok.0; small = ok.1 } in
+        let rising : Rising (delimiters b T) m =
         record { table = delimiters_table b T k.bucketed.some k.table; split = split } in
         let left_is = k.left_is m ok.1 in
         let right_is = k.right_is m ok.1 in

@@ -1,13 +1,14 @@
 -- What is known of each map and of an item number below its count; each item has a value, of 16 bits. Assumes nothing.
 use mathlib.Core.Path.{◌≡◌, refl, sym, ap, ◌∙◌}
 use mathlib.Core.List.{List}
-use mathlib.Core.Logic.{◌⊎◌, inl, inr}
+use mathlib.Core.Logic.{◌⊎◌, inl, inr, ◌≢◌}
 use Prim.Native.Nat.{ℕ, ◌+◌, ◌-◌, ◌≤◌, ◌<◌}
 use native.Mathlib.Omega.{arith}
 use lib.ListN.{length, get_or}
 use Rattle.tables.specs.Delimiters.{buckets, delimiters}
 use Rattle.tables.proofs.Delimiting.{buckets_le}
 use Rattle.items.specs.declared.Items.{Items}
+use Rattle.items.specs.declared.source.Source as declared
 use Rattle.items.specs.declared.Items.TheVariants.{Keys, Prefixes, Handles, Offsets}
 use Rattle.items.specs.Items.{items_of, values_of, Sorted, Bounds, Known}
 use Rattle.items.specs.Vouched.{EachHasAValue, ValuesFit}
@@ -58,6 +59,17 @@ module _ {w : Items} {b : ℕ} {T left right : List ℕ} where
     asked_handles e p =
         let few : i < length (delimiters b T) - 2 = rw (e, length_handles (delimiters b T)) at p.1 in
         (known_handles e p.0, omega arith)
+
+-- so it is known of each source
+pub known_in : (s : declared.Source) → Known s.which s.rows.b s.rows.keys.now s.left.now s.right.now
+known_in s = known_by s.which s.rows.b s.rows.keys.now s.left.now s.right.now s.sorted s.bounded
+  where
+    known_by : (w : Items) (b : ℕ) (T left right : List ℕ) → (w ≢ Handles → Sorted b T)
+        → (w ≡ Handles → Bounds b T left right) → Known w b T left right
+    known_by Keys b T left right s k = record { source = s (λ e. cc) }
+    known_by Prefixes b T left right s k = record { source = s (λ e. cc) }
+    known_by Handles b T left right s k = record { source = k refl }
+    known_by Offsets b T left right s k = record { source = s (λ e. cc) }
 
 -- each item has a value
 pub each_has_a_value : EachHasAValue

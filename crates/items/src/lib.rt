@@ -1,24 +1,29 @@
 // Which item and which value stand at number i of each map (document 01, "Call index" and "Neighbour index", and
 // request One). They are computed from the table and the bounds of its splits, and not stored.
 //
-// Every function is proved and the crate assumes nothing. `Known` is what the builds have tested, and the bounds that
-// they have written.
+// Every function is proved and the crate assumes nothing. A `Source` holds what the builds have tested, and the bounds
+// that they have written.
 #![tactic(auto)]
 
 ghost use Rattle.std.specs.Prelude.{◌≡◌, ◌+◌, ◌*◌, ◌/◌, ◌%◌, ◌≤◌, ◌<◌, length, get_or};
-ghost use Rattle.tables.specs.Delimiters.{buckets, delimiters};
+ghost use Rattle.tables.specs.Delimiters.{buckets};
+ghost use Rattle.tables.specs.Inner.{listing};
 ghost use Rattle.tables.specs.Buckets.{bucket_length, bucket_prefix};
 ghost use Rattle.splits.specs.Splits.{split_beside, handle_item, handle_split};
-ghost use Rattle.items.specs.Items.{items_of, values_of, Sorted, Bounds, Known};
+ghost use Rattle.items.specs.Items.{Sorted, Bounds};
+ghost use Rattle.items.specs.Inner.{items_in, values_in};
 
-use splits::split::{entry_at, handle_item, handle_split};
+pub mod source;
+
+use source::Source;
+use splits::split::{handle_item, handle_split};
 use tables::bucket::bucket_length;
-use tables::delimiter::{bucket_count, delimiter_count};
+use tables::delimiter::bucket_count;
 use tables::lengths::handle_count;
 use words::prefix::prefix_item;
 
-// The map whose items are meant. The bucket size stands beside it: then nothing of which map it is goes through
-// memory for each item.
+// The map whose items are meant. It stays an enum: three closures for each map, to count, find and value its items, are
+// no plainer than one `match`.
 #[derive(Clone, Copy)]
 pub enum Items {
     // Map 1, on the keys.
@@ -63,53 +68,52 @@ fn split_at(left: &[u16], i: usize) -> usize
     requires { (0 < length left.now) × (i < 32768) }
     ensures { result ≡ split_beside (get_or left.now 0 0) i }
 {
-    handle_split(entry_at(left, 0), i)
+    handle_split(usize::from(left[0]), i)
 }
 
-// The handle of that split, an item of map 3.
-fn handle_at(keys: &[u64], b: usize, left: &[u16], right: &[u16], i: usize) -> u64
-    requires { Bounds b keys.now left.now right.now × (i + 2 < length (delimiters b keys.now)) }
-    ensures { result ≡ handle_item (delimiters b keys.now)
-        (handle_split (delimiters b keys.now) i) }
-{
-    handle_item(keys, b, left, right, split_at(left, i))
-}
-
-// How many items the map has, with buckets of b rows.
-pub fn item_count(which: Items, b: usize, keys: &[u64], left: &[u16], right: &[u16]) -> usize
-    requires { Known which b keys.now left.now right.now }
-    ensures { (result ≡ length (items_of which b keys.now)) × (result ≤ 32768) }
-{
-    match which {
-        Items::Keys => keys.len(),
-        Items::Prefixes => bucket_count(keys.len(), b),
-        Items::Handles => handle_count(delimiter_count(keys, b)),
-        Items::Offsets => keys.len(),
+impl Source<'_> {
+    // The handle of the split that item i of map 3 stands for.
+    fn handle_at(&self, i: usize) -> u64
+        requires { Bounds self.now.rows.b self.now.rows.keys.now self.now.left.now self.now.right.now
+            × (i + 2 < length (listing self.now.rows)) }
+        ensures { result ≡ handle_item (listing self.now.rows) (handle_split (listing self.now.rows) i) }
+    {
+        handle_item(&self.rows, self.left, self.right, split_at(self.left, i))
     }
-}
 
-// Item i.
-pub fn item_at(which: Items, b: usize, keys: &[u64], left: &[u16], right: &[u16], i: usize) -> u64
-    requires { Known which b keys.now left.now right.now × (i < length (items_of which b keys.now)) }
-    ensures { result ≡ get_or (items_of which b keys.now) i 0 }
-{
-    match which {
-        Items::Keys => keys[i],
-        Items::Prefixes => prefix_at(keys, b, i),
-        Items::Handles => handle_at(keys, b, left, right, i),
-        Items::Offsets => keys[i],
+    // How many items the map has.
+    pub fn count(&self) -> usize
+        ensures { (result ≡ length (items_in self.now)) × (result ≤ 32768) }
+    {
+        match self.which {
+            Items::Keys | Items::Offsets => self.rows.keys.len(),
+            Items::Prefixes => bucket_count(self.rows.keys.len(), self.rows.b),
+            Items::Handles => handle_count(self.rows.count),
+        }
     }
-}
 
-// The value of item i.
-pub fn value_at(which: Items, b: usize, keys: &[u64], left: &[u16], right: &[u16], i: usize) -> u16
-    requires { Known which b keys.now left.now right.now × (i < length (items_of which b keys.now)) }
-    ensures { result ≡ get_or (values_of which b keys.now) i 0 }
-{
-    match which {
-        Items::Keys => key_value(keys, b, i),
-        Items::Prefixes => i as u16,
-        Items::Handles => split_at(left, i) as u16,
-        Items::Offsets => offset_of(b, i) as u16,
+    // Item i.
+    pub fn item_at(&self, i: usize) -> u64
+        requires { i < length (items_in self.now) }
+        ensures { result ≡ get_or (items_in self.now) i 0 }
+    {
+        match self.which {
+            Items::Keys | Items::Offsets => self.rows.keys[i],
+            Items::Prefixes => prefix_at(self.rows.keys, self.rows.b, i),
+            Items::Handles => self.handle_at(i),
+        }
+    }
+
+    // The value of item i.
+    pub fn value_at(&self, i: usize) -> u16
+        requires { i < length (items_in self.now) }
+        ensures { result ≡ get_or (values_in self.now) i 0 }
+    {
+        match self.which {
+            Items::Keys => key_value(self.rows.keys, self.rows.b, i),
+            Items::Prefixes => i as u16,
+            Items::Handles => split_at(self.left, i) as u16,
+            Items::Offsets => offset_of(self.rows.b, i) as u16,
+        }
     }
 }

@@ -5,7 +5,7 @@ use native.Mathlib.Omega.{arith}
 use mathlib.Core.List.{List, ◌++◌}
 use mathlib.Core.Path.{◌≡◌, refl, sym, ap, ◌∙◌}
 use lib.ListN.{length, drop}
-use Rattle.digits.specs.declared.Next.TheVariants.{At, Off}
+use Rattle.std.proofs.Common.{Some, None}
 use Rattle.digits.proofs.Positions.{reads_determined, Unique}
 use Rattle.lines.specs.Lines.{line, texts, LinesAt, NoLines, Expects, Lined, Loads, Leaves}
 use Rattle.lines.specs.Determined.{ExpectDetermined, LineDetermined, LinesDetermined, LoadDetermined}
@@ -15,10 +15,10 @@ use Rattle.lines.proofs.Listing.{lines_unique}
 
 pub expect_determined : ExpectDetermined
 unfolding Expects
-expect_determined t s i (At j) (At k) h g = let a = h.to in let b = g.to in cc
-expect_determined t s i (At j) Off h g = absurd (g (drop j s) h.from)
-expect_determined t s i Off (At k) h g = absurd (h (drop k s) g.from)
-expect_determined t s i Off Off h g = refl
+expect_determined t s i (Some j) (Some k) h g = let a = h.to in let b = g.to in cc
+expect_determined t s i (Some j) None h g = absurd (g (drop j s) h.from)
+expect_determined t s i None (Some k) h g = absurd (h (drop k s) g.from)
+expect_determined t s i None None h g = refl
 
 pub line_determined : LineDetermined
 line_determined most kind tag s i r q h = reads_determined most (line kind tag) (line_unique kind tag most h) s i r q
@@ -39,27 +39,27 @@ module _ (most : ℕ) (line : ℕ → List ℕ) (n : ℕ) (s : List ℕ) (i : �
 
 pub lines_determined : LinesDetermined
 unfolding Lined
-lines_determined most kind tag n s i (At j) (At k) l h g =
+lines_determined most kind tag n s i (Some j) (Some k) l h g =
     let e = (one_list most (line kind tag) n s i (line_unique kind tag most l) j k h.0 g.0 h.1 g.1).1 in cc
-lines_determined most kind tag n s i (At j) Off l h g = no_list most (line kind tag) n s i j h.0 h.1 g
-lines_determined most kind tag n s i Off (At k) l h g = no_list most (line kind tag) n s i k g.0 g.1 h
-lines_determined most kind tag n s i Off Off l h g = refl
+lines_determined most kind tag n s i (Some j) None l h g = no_list most (line kind tag) n s i j h.0 h.1 g
+lines_determined most kind tag n s i None (Some k) l h g = no_list most (line kind tag) n s i k g.0 g.1 h
+lines_determined most kind tag n s i None None l h g = refl
 
 pub load_determined : LoadDetermined
 unfolding Loads
-load_determined most kind tag n s i out a b (At j) (At k) l h g =
+load_determined most kind tag n s i out a b (Some j) (Some k) l h g =
     let p = one_list _ _ n _ i (line_unique kind tag most l) j k h.1.0 g.1.0 h.1.1 g.1.1 in
     let e = p.1 in
     (cc, h.1.2 ∙ ap (λ (xs : List ℕ). xs ++ drop n out) p.0 ∙ sym g.1.2)
-load_determined most kind tag n s i out a b (At j) Off l h g =
+load_determined most kind tag n s i out a b (Some j) None l h g =
     no_list most (line kind tag) n s i j h.1.0 h.1.1 (g.0 h.0)
-load_determined most kind tag n s i out a b Off (At k) l h g =
+load_determined most kind tag n s i out a b None (Some k) l h g =
     no_list most (line kind tag) n s i k g.1.0 g.1.1 (h.0 g.0)
-load_determined most kind tag n s i out a b Off Off l h g = (refl, (h.1 ∙ sym g.1, h.2 ∙ sym g.2))
+load_determined most kind tag n s i out a b None None l h g = (refl, (h.1 ∙ sym g.1, h.2 ∙ sym g.2))
 
 pub room_determined : RoomDetermined
 unfolding Leaves
-room_determined t room (At j) (At k) h g = let e : j ≡ k = omega arith in cc
-room_determined t room (At j) Off h g = absurd (omega arith)
-room_determined t room Off (At k) h g = absurd (omega arith)
-room_determined t room Off Off h g = refl
+room_determined t room (Some j) (Some k) h g = let e : j ≡ k = omega arith in cc
+room_determined t room (Some j) None h g = absurd (omega arith)
+room_determined t room None (Some k) h g = absurd (omega arith)
+room_determined t room None None h g = refl

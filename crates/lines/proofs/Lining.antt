@@ -5,14 +5,12 @@ use native.Mathlib.Omega.{arith}
 use mathlib.Core.List.{List, [], ◌∷◌, ◌++◌}
 use mathlib.Core.Path.{◌≡◌, refl, sym, ◌∙◌}
 use lib.ListN.{length, length-append}
-use Rattle.digits.specs.Texts.{Reads, Writes, next_or}
+use Rattle.digits.specs.Texts.{Reads, Writes}
 use Rattle.digits.specs.Numbers.{decimal_text, hex_text, ended, most_word}
 use Rattle.digits.specs.declared.Read.{Read}
-use Rattle.digits.specs.declared.Read.TheVariants.{Value, Bad}
-use Rattle.digits.specs.declared.Next.{Next}
-use Rattle.digits.specs.declared.Next.TheVariants.{At, Off}
+use Rattle.std.proofs.Common.{Option, Some, None}
 use Rattle.digits.proofs.Positions.{has_then, hasnt_first, hasnt_then, Unique, tag_unique}
-use Rattle.digits.proofs.Placing.{writes_on}
+use Rattle.digits.proofs.Placing.{writes_then}
 use Rattle.digits.proofs.Decimals.{decimal_unique}
 use Rattle.digits.proofs.Hexes.{hex_unique, hex_length}
 use Rattle.lines.specs.Lines.{number_text, line, lines, texts, Expects}
@@ -21,22 +19,22 @@ use Rattle.lines.specs.declared.Kind.TheVariants.{Decimal, Hex}
 
 -- a text after a tag that stands there, or does not
 module _ (most : ℕ) (text : ℕ → List ℕ) (s : List ℕ) (i : ℕ) (tag : List ℕ) where
-  pub read_after : (j : ℕ) → Expects tag s i (At j) → (r : Read) → Reads most text s j r
+  pub read_after : (j : ℕ) → Expects tag s i (Some j) → (r : Option Read) → Reads most text s j r
       → Reads most (λ v. tag ++ text v) s i r
   unfolding Expects Reads
-  read_after j h (Value v k) g = (g.0, has_then s i j tag h (text v) k g.1)
-  read_after j h Bad g = λ v l. hasnt_then s i j tag h (text v) (g v l)
+  read_after j h (Some r) g = (g.0, has_then s i j tag h (text r.value) r.next g.1)
+  read_after j h None g = λ v l. hasnt_then s i j tag h (text v) (g v l)
 
-  pub read_off : Expects tag s i Off → Reads most (λ v. tag ++ text v) s i Bad
+  pub read_off : Expects tag s i None → Reads most (λ v. tag ++ text v) s i None
   unfolding Expects Reads
   read_off h v l = hasnt_first s i tag (text v) h
 
 -- in a room for the line the tag is put, and the number and the line feed after it
-pub write_after : (kind k : Kind) (tag out mid after : List ℕ) (v i j : ℕ) (r q : Next) → kind ≡ k
-    → i + length (line kind tag v) ≤ length out → Writes tag out i mid r → j ≡ next_or r i
-    → Writes (ended (number_text k) 10 v) mid j after q → Writes (line kind tag v) out i after q
-write_after kind k tag out mid after v i j r q e room w f g =
-    writes_on tag (ended (number_text kind) 10 v) out mid after i j i r q room w f (λ h. rw e g)
+pub write_after : (kind k : Kind) (tag out mid after : List ℕ) (v i j : ℕ) (r : Option ℕ) → kind ≡ k
+    → i + length (line kind tag v) ≤ length out → Writes tag out i mid (Some j)
+    → Writes (ended (number_text k) 10 v) mid j after r → Writes (line kind tag v) out i after r
+write_after kind k tag out mid after v i j r e room w g =
+    writes_then tag out mid i j w (ended (number_text kind) 10 v) after r room (rw e g)
 
 -- no line begins another
 pub decimal_line_unique : (tag : List ℕ) (most : ℕ) → Unique most (line Decimal tag)

@@ -8,8 +8,8 @@ use mathlib.Core.Path.{◌≡◌, refl, sym, ap, ◌∙◌}
 use lib.ListN.{length, drop, get_or, set, length-append, length-drop}
 use lib.Seq.{drop-cons, set_at, drop_at, drop-drop}
 use Rattle.digits.specs.Texts.{Reads}
-use Rattle.digits.specs.declared.Read.TheVariants.{Value, Bad}
-use Rattle.digits.specs.declared.Next.TheVariants.{At, Off}
+use Rattle.digits.specs.declared.Read.{Read}
+use Rattle.std.proofs.Common.{Some, None}
 use Rattle.digits.proofs.Positions.{has_within, has_then, Unique, unique_rest}
 use Rattle.lines.specs.Lines.{texts, AllWithin, LinesAt, NoLines, Lined, Loads}
 
@@ -62,33 +62,33 @@ module _ (most : ℕ) (line : ℕ → List ℕ) (u : Unique most line) where
 
 -- ---- n lines passed one by one
 
-pub read_within : (most : ℕ) (line : ℕ → List ℕ) (s : List ℕ) (i v j : ℕ)
-    → Reads most line s i (Value v j) → v ≤ most
+pub read_within : (most : ℕ) (line : ℕ → List ℕ) (s : List ℕ) (i : ℕ) (r : Read)
+    → Reads most line s i (Some r) → r.value ≤ most
 unfolding Reads
-read_within most line s i v j h = h.0
+read_within most line s i r h = h.0
 
 module _ (most : ℕ) (line : ℕ → List ℕ) (s : List ℕ) (i : ℕ) where
-  pub lined_start : i ≤ length s → Lined most line 0 s i (At i)
+  pub lined_start : i ≤ length s → Lined most line 0 s i (Some i)
   unfolding Lined texts
   lined_start h = ([], record { count = refl; within = tt; stand = record { from = (h, refl); to = omega arith } })
 
-  pub lined_outside : (n : ℕ) → length s < i → Lined most line n s i Off
+  pub lined_outside : (n : ℕ) → length s < i → Lined most line n s i None
   unfolding Lined
   lined_outside n h xs l w rest f = omega arith
 
   -- k lines were passed, and `at` is the place after them
   module _ (k at : ℕ) where
-    one_more : (v next : ℕ) (xs : List ℕ) → LinesAt most line k s i at xs → Reads most line s at (Value v next)
-        → LinesAt most line (k + 1) s i next (xs ++ (v ∷ []))
+    one_more : (r : Read) (xs : List ℕ) → LinesAt most line k s i at xs → Reads most line s at (Some r)
+        → LinesAt most line (k + 1) s i r.next (xs ++ (r.value ∷ []))
     unfolding Reads
-    one_more v next xs l g = record {
-      count = length-append xs (v ∷ []) ∙ ap (λ (n : ℕ). n + 1) l.count;
-      within = within_snoc most xs v l.within g.0;
-      stand = rw (texts_snoc line xs v) (has_then s i at (texts line xs) l.stand (line v) next g.1);
+    one_more r xs l g = record {
+      count = length-append xs (r.value ∷ []) ∙ ap (λ (n : ℕ). n + 1) l.count;
+      within = within_snoc most xs r.value l.within g.0;
+      stand = rw (texts_snoc line xs r.value) (has_then s i at (texts line xs) l.stand (line r.value) r.next g.1);
     }
 
     none_more : (n : ℕ) (xs : List ℕ) → Unique most line → k < n → LinesAt most line k s i at xs
-        → Reads most line s at Bad
+        → Reads most line s at None
         → NoLines most line n s i
     unfolding texts Reads
     none_more n xs u h l g ys m w rest f =
@@ -102,20 +102,20 @@ module _ (most : ℕ) (line : ℕ → List ℕ) (s : List ℕ) (i : ℕ) where
             g z wz.0 (texts line zs ++ rest)
             (has_within s i at (texts line xs) l.stand, d ∙ append_assoc (line z) (texts line zs) rest)
 
-    pub lined_more : (v next : ℕ) → Lined most line k s i (At at) → Reads most line s at (Value v next)
-        → Lined most line (k + 1) s i (At next)
+    pub lined_more : (r : Read) → Lined most line k s i (Some at) → Reads most line s at (Some r)
+        → Lined most line (k + 1) s i (Some r.next)
     unfolding Lined
-    lined_more v next l g = (l.0 ++ (v ∷ []), one_more v next l.0 l.1 g)
+    lined_more r l g = (l.0 ++ (r.value ∷ []), one_more r l.0 l.1 g)
 
-    pub lined_bad : (n : ℕ) → Unique most line → k < n → Lined most line k s i (At at)
-        → Reads most line s at Bad
-        → Lined most line n s i Off
+    pub lined_bad : (n : ℕ) → Unique most line → k < n → Lined most line k s i (Some at)
+        → Reads most line s at None
+        → Lined most line n s i None
     unfolding Lined
     lined_bad n u h l g = none_more n l.0 u h l.1 g
 
     -- ---- the same, with the numbers put into `out`, which then is `after`
     module _ (out after : List ℕ) where
-      pub loads_length : Loads most line k s i out after (At at) → length after ≡ length out
+      pub loads_length : Loads most line k s i out after (Some at) → length after ≡ length out
       unfolding Loads
       loads_length l =
           let a = length-append l.1.0 (drop k out) in
@@ -124,20 +124,21 @@ module _ (most : ℕ) (line : ℕ → List ℕ) (s : List ℕ) (i : ℕ) where
           let d = l.0 in
           ap length l.1.2 ∙ omega arith
 
-      pub loads_more : (v next : ℕ) → k < length out → Loads most line k s i out after (At at)
-          → Reads most line s at (Value v next)
-          → Loads most line (k + 1) s i out (set after k v) (At next)
+      pub loads_more : (r : Read) → k < length out → Loads most line k s i out after (Some at)
+          → Reads most line s at (Some r)
+          → Loads most line (k + 1) s i out (set after k r.value) (Some r.next)
       unfolding Loads
-      loads_more v next room l g =
+      loads_more r room l g =
+          let v = r.value in
           let xs = l.1.0 in
           let e : set after k v ≡ xs ++ (v ∷ drop (suc k) out) =
           ap (λ (x : List ℕ). set x k v) (l.1.2 ∙ ap (λ (x : List ℕ). xs ++ x) (drop-cons out k 0 room))
           ∙ set_at xs (get_or out k 0) (drop (suc k) out) v k l.1.1.count in
-          (omega arith, (xs ++ (v ∷ []), one_more v next xs l.1.1 g, e ∙ rw (add-one, append_assoc)))
+          (omega arith, (xs ++ (v ∷ []), one_more r xs l.1.1 g, e ∙ rw (add-one, append_assoc)))
 
       pub loads_bad : (n : ℕ) → Unique most line → k < n → n ≤ length out
-          → Loads most line k s i out after (At at)
-          → Reads most line s at Bad → Loads most line n s i out after Off
+          → Loads most line k s i out after (Some at)
+          → Reads most line s at None → Loads most line n s i out after None
       unfolding Loads
       loads_bad n u h room l g =
           let no = none_more n l.1.0 u h l.1.1 g in
@@ -149,14 +150,14 @@ module _ (most : ℕ) (line : ℕ → List ℕ) (s : List ℕ) (i : ℕ) where
           (λ room. no, loads_length l, same, λ small. absurd (omega arith))
 
 module _ (most : ℕ) (line : ℕ → List ℕ) (s : List ℕ) (i : ℕ) (out : List ℕ) where
-  pub loads_start : i ≤ length s → Loads most line 0 s i out out (At i)
+  pub loads_start : i ≤ length s → Loads most line 0 s i out out (Some i)
   unfolding Loads Lined lined_start
   loads_start h = let l = lined_start most line s i h in (omega arith, (l.0, l.1, refl))
 
-  pub loads_small : (n : ℕ) → length out < n → Loads most line n s i out out Off
+  pub loads_small : (n : ℕ) → length out < n → Loads most line n s i out out None
   unfolding Loads
   loads_small n h = (λ room. absurd (omega arith), refl, refl, λ l. refl)
 
-  pub loads_outside : (n : ℕ) → length s < i → Loads most line n s i out out Off
+  pub loads_outside : (n : ℕ) → length s < i → Loads most line n s i out out None
   unfolding Loads Lined
   loads_outside n h = (λ room. lined_outside most line s i n h, refl, refl, λ l. refl)

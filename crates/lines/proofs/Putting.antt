@@ -7,10 +7,9 @@ use mathlib.Core.List.{List, [], ◌∷◌, ◌++◌}
 use mathlib.Core.Path.{◌≡◌, sym, ap, subst, ◌∙◌}
 use lib.ListN.{length, take, drop, get_or, length-append, take-append-drop}
 use lib.Seq.{take-suc, take-length}
-use Rattle.digits.specs.Texts.{Writes, next_or}
-use Rattle.digits.specs.declared.Next.{Next}
-use Rattle.digits.specs.declared.Next.TheVariants.{At, Off}
-use Rattle.digits.proofs.Placing.{placed_none, writes_at, writes_room, writes_then, writes_length, writes_next}
+use Rattle.digits.specs.Texts.{Writes}
+use Rattle.std.proofs.Common.{Some, None}
+use Rattle.digits.proofs.Placing.{placed_none, writes_at, writes_then, writes_length, writes_next}
 use Rattle.lines.specs.Lines.{texts, Leaves}
 use Rattle.lines.proofs.Listing.{texts_append, texts_snoc}
 
@@ -46,7 +45,7 @@ module _ (line : ℕ → List ℕ) (xs : List ℕ) where
 
   module _ (room left k w : ℕ) (h : k < length xs) (e : left + length (texts line (take k xs)) ≡ room)
       (n : w ≡ length (line (get_or xs k 0))) where
-    pub room_off : left < w → Leaves (texts line xs) room Off
+    pub room_off : left < w → Leaves (texts line xs) room None
     unfolding Leaves
     room_off l = let a = texts_grow k h in let b = texts_part (k + 1) in omega arith
 
@@ -54,44 +53,50 @@ module _ (line : ℕ → List ℕ) (xs : List ℕ) where
     room_more l = let a = texts_grow k h in omega arith
 
   pub room_end : (room left k : ℕ) → k ≡ length xs → left + length (texts line (take k xs)) ≡ room
-      → Leaves (texts line xs) room (At left)
+      → Leaves (texts line xs) room (Some left)
   unfolding Leaves
   room_end room left k e h = ap (λ (t : List ℕ). left + length (texts line t)) (sym (all_taken k e)) ∙ h
 
   -- ---- k lines put
 
   module _ (out : List ℕ) (i : ℕ) where
-    pub put_short : i ≤ length out → Leaves (texts line xs) (length out - i) Off
+    pub put_short : i ≤ length out → Leaves (texts line xs) (length out - i) None
         → length out < i + length (texts line xs)
     unfolding Leaves
     put_short h l = omega arith
 
-    pub put_room : (left : ℕ) → i ≤ length out → Leaves (texts line xs) (length out - i) (At left)
+    pub put_room : (left : ℕ) → i ≤ length out → Leaves (texts line xs) (length out - i) (Some left)
         → i + length (texts line xs) ≤ length out
     unfolding Leaves
     put_room left h l = omega arith
 
-    pub put_start : i ≤ length out → Writes (texts line (take 0 xs)) out i out (At i)
+    pub put_start : i ≤ length out → Writes (texts line (take 0 xs)) out i out (Some i)
     unfolding texts
     put_start h = writes_at [] out out i i (omega arith) h (sym (placed_none out i))
 
-    pub put_more : (k at next : ℕ) (mid after : List ℕ) (r : Next) → i + length (texts line xs) ≤ length out
-        → k < length xs
-        → Writes (texts line (take k xs)) out i mid (At at)
-        → Writes (line (get_or xs k 0)) mid at after r → next ≡ next_or r at
-        → Writes (texts line (take (k + 1) xs)) out i after (At next)
-    put_more k at next mid after r room h w g e =
-        let a = texts_part (k + 1) in
-        let b = texts_grow k h in
-        let m = writes_length (texts line (take k xs)) out mid i (At at) w in
-        let n = writes_next (texts line (take k xs)) out mid i at w in
-        let put : Writes (line (get_or xs k 0)) mid at after (At next) =
-        rw e (writes_room (line (get_or xs k 0)) mid after at r at (omega arith) g) in
-        let l = length-append (texts line (take k xs)) (line (get_or xs k 0)) in
-        rw (texts_more k h) (writes_then (texts line (take k xs)) out mid i at w (line (get_or xs k 0)) after (At next)
-        (omega arith) put)
+    -- after k lines there is room for the next, and it is put there
+    module _ (k at : ℕ) (mid after : List ℕ) (room : i + length (texts line xs) ≤ length out) (h : k < length xs)
+        (w : Writes (texts line (take k xs)) out i mid (Some at)) where
+      pub put_fits : Writes (line (get_or xs k 0)) mid at after None → ⊥
+      unfolding Writes
+      put_fits g =
+          let a = texts_part (k + 1) in
+          let b = texts_grow k h in
+          let m = writes_length (texts line (take k xs)) out mid i (Some at) w in
+          let n = writes_next (texts line (take k xs)) out mid i at w in
+          let s = g.0 in
+          omega arith
+
+      pub put_more : (next : ℕ) → Writes (line (get_or xs k 0)) mid at after (Some next)
+          → Writes (texts line (take (k + 1) xs)) out i after (Some next)
+      put_more next g =
+          let a = texts_part (k + 1) in
+          let b = texts_grow k h in
+          let l = length-append (texts line (take k xs)) (line (get_or xs k 0)) in
+          rw (texts_more k h) (writes_then (texts line (take k xs)) out mid i at w (line (get_or xs k 0)) after
+          (Some next) (omega arith) g)
 
     pub put_end : (k at : ℕ) (after : List ℕ) → k ≡ length xs
-        → Writes (texts line (take k xs)) out i after (At at)
-        → Writes (texts line xs) out i after (At at)
-    put_end k at after e w = subst (λ (l : List ℕ). Writes (texts line l) out i after (At at)) (all_taken k e) w
+        → Writes (texts line (take k xs)) out i after (Some at)
+        → Writes (texts line xs) out i after (Some at)
+    put_end k at after e w = subst (λ (l : List ℕ). Writes (texts line l) out i after (Some at)) (all_taken k e) w

@@ -1,9 +1,7 @@
 -- Document 01, "`rowcheck`": lines of a tag, a number and a line feed, and what is said of n such lines at a position.
-use Rattle.std.specs.Prelude.{ℕ, ◌+◌, ◌<◌, ◌≤◌, List, [], ◌∷◌, ◌++◌, ◌≡◌, length, drop}
+use Rattle.std.specs.Prelude.{ℕ, ◌+◌, ◌<◌, ◌≤◌, List, [], ◌∷◌, ◌++◌, ◌≡◌, length, drop, Option, Some, None}
 use Rattle.digits.specs.Texts.{Has, Hasnt}
 use Rattle.digits.specs.Numbers.{decimal_text, hex_text, ended}
-use Rattle.digits.specs.declared.Next.{Next}
-use Rattle.digits.specs.declared.Next.TheVariants.{At, Off}
 use Rattle.lines.specs.declared.Kind.{Kind}
 use Rattle.lines.specs.declared.Kind.TheVariants.{Decimal, Hex}
 
@@ -31,9 +29,9 @@ AllWithin most [] = Unit {0}
 AllWithin most (x ∷ xs) = (x ≤ most) × AllWithin most xs
 
 -- what a reader says that looks for the text t at i
-unfoldable pub Expects : List ℕ → List ℕ → ℕ → Next → Type 0
-Expects t s i (At j) = Has s i t j
-Expects t s i Off = Hasnt s i t
+unfoldable pub Expects : List ℕ → List ℕ → ℕ → Option ℕ → Type 0
+Expects t s i (Some j) = Has s i t j
+Expects t s i None = Hasnt s i t
 
 -- the lines of the n numbers xs up to `most` stand at i and end at j
 pub record LinesAt (most : ℕ) (line : ℕ → List ℕ) (n : ℕ) (s : List ℕ) (i j : ℕ) (xs : List ℕ) : Type 0 where
@@ -46,20 +44,20 @@ abbrev pub NoLines : ℕ → (ℕ → List ℕ) → ℕ → List ℕ → ℕ →
 NoLines most line n s i = (xs : List ℕ) → length xs ≡ n → AllWithin most xs → Hasnt s i (texts line xs)
 
 -- what a reader says that looks for the lines of n numbers up to `most` at i
-unfoldable pub Lined : ℕ → (ℕ → List ℕ) → ℕ → List ℕ → ℕ → Next → Type 0
-Lined most line n s i (At j) = (xs : List ℕ) × LinesAt most line n s i j xs
-Lined most line n s i Off = NoLines most line n s i
+unfoldable pub Lined : ℕ → (ℕ → List ℕ) → ℕ → List ℕ → ℕ → Option ℕ → Type 0
+Lined most line n s i (Some j) = (xs : List ℕ) × LinesAt most line n s i j xs
+Lined most line n s i None = NoLines most line n s i
 
 -- the same, with the numbers put at the start of `out`, which is left as `after`. Where the lines are not all there
 -- or don't fit, what stands from place n on is as it was; and all of it, where they don't fit
-unfoldable pub Loads : ℕ → (ℕ → List ℕ) → ℕ → List ℕ → ℕ → List ℕ → List ℕ → Next
+unfoldable pub Loads : ℕ → (ℕ → List ℕ) → ℕ → List ℕ → ℕ → List ℕ → List ℕ → Option ℕ
     → Type 0
-Loads most line n s i out after (At j) =
+Loads most line n s i out after (Some j) =
     (n ≤ length out) × ((xs : List ℕ) × LinesAt most line n s i j xs × (after ≡ xs ++ drop n out))
-Loads most line n s i out after Off = (n ≤ length out → NoLines most line n s i)
+Loads most line n s i out after None = (n ≤ length out → NoLines most line n s i)
     × (length after ≡ length out) × (drop n after ≡ drop n out) × (length out < n → after ≡ out)
 
 -- what is left of a room after the text t, if it fits
-unfoldable pub Leaves : List ℕ → ℕ → Next → Type 0
-Leaves t room (At left) = left + length t ≡ room
-Leaves t room Off = room < length t
+unfoldable pub Leaves : List ℕ → ℕ → Option ℕ → Type 0
+Leaves t room (Some left) = left + length t ≡ room
+Leaves t room None = room < length t

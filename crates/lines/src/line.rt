@@ -4,18 +4,16 @@ ghost use Rattle.digits.specs.Texts.{Reads, Writes};
 ghost use Rattle.lines.specs.Lines.{line, number_text};
 
 use crate::{Kind, text};
-use digits::{Next, Read};
+use digits::Read;
 
 // The line at i, whose number is at most `most`.
-pub fn read_line(s: &[u8], i: usize, tag: &[u8], kind: Kind, most: u64) -> Read
+pub fn read_line(s: &[u8], i: usize, tag: &[u8], kind: Kind, most: u64) -> Option<Read>
     ensures { Reads most (line kind tag.now) s.now i result }
 {
-    let Next::At(j) = text::expect(s, i, tag) else {
-        return Read::Bad;
-    };
+    let j = text::expect(s, i, tag)?;
     match kind {
-        Kind::Decimal => digits::decimal::read_decimal(s, j, most, 10).plain(),
-        Kind::Hex => hexdigits::read_hex(s, j, most, 10),
+        Kind::Decimal => digits::decimal::read_decimal(s, j, most, b'\n').ok(),
+        Kind::Hex => hexdigits::read_hex(s, j, most, b'\n'),
     }
 }
 
@@ -37,18 +35,15 @@ pub fn line_length(tag: &[u8], kind: Kind, v: u64) -> usize
 }
 
 // Puts the line at i.
-pub fn write_line(out: &mut [u8], i: usize, tag: &[u8], kind: Kind, v: u64) -> Next
+pub fn write_line(out: &mut [u8], i: usize, tag: &[u8], kind: Kind, v: u64) -> Option<usize>
     ensures { Writes (line kind tag.now v) out.old i out.new result }
 {
-    if out.len() < i {
-        return Next::Off;
+    if out.len().checked_sub(i)? < line_length(tag, kind, v) {
+        return None;
     }
-    if out.len() - i < line_length(tag, kind, v) {
-        return Next::Off;
-    }
-    let j = text::write_bytes(out, i, tag).or(i);
+    let j = text::write_bytes(out, i, tag)?;
     match kind {
-        Kind::Decimal => digits::decimal::write_decimal(out, j, v, 10),
-        Kind::Hex => hexdigits::write_hex(out, j, v, 10),
+        Kind::Decimal => digits::decimal::write_decimal(out, j, v, b'\n'),
+        Kind::Hex => hexdigits::write_hex(out, j, v, b'\n'),
     }
 }

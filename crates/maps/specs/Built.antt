@@ -1,5 +1,5 @@
 -- Document 01, "Static maps" and "Refusal numbers": what a build of one map answers and leaves in lent memory.
-use Rattle.std.specs.Prelude.{◌≡◌, List, ℕ, ◌≤◌, ◌<◌, length, get_or, drop}
+use Rattle.std.specs.Prelude.{◌≡◌, List, ℕ, ◌≤◌, ◌<◌, length, get_or, drop, Result, OnOk, IfErr}
 use Rattle.cells.specs.Cells.{cell_count, work_count, map_value}
 use Rattle.cells.specs.Memory.{cleared}
 use Rattle.items.specs.Items.{items_of, values_of}
@@ -20,14 +20,16 @@ pub record Filled (seed : ℕ) (items values before after : List ℕ) : Type 0 w
   pub beyond : drop (cell_count (length items)) after ≡ drop (cell_count (length items)) before
   pub long : length after ≡ length before
 
--- a build of the map from items to values: the answer 0 accepts, any other is the size of the largest jam; the work is
--- cleared either way
-pub record Built (seed : ℕ) (items values cells work : List ℕ) (size : ℕ) (cells' work' : List ℕ) : Type 0 where
-  pub accepted : size ≡ 0 → Jamless seed items × Filled seed items values cells cells'
-  pub refused : 0 < size → LargestJam seed items size × (cells' ≡ cleared (cell_count (length items)) cells)
+-- a build of the map from items to values: it accepts, or refuses with the size of the largest jam; the work is cleared
+-- either way
+pub record Built (seed : ℕ) (items values cells work : List ℕ) (answer : Result (Unit {0}) ℕ)
+    (cells' work' : List ℕ) : Type 0 where
+  pub accepted : OnOk answer (Jamless seed items × Filled seed items values cells cells')
+  pub refused : IfErr answer
+      (λ size. LargestJam seed items size × (cells' ≡ cleared (cell_count (length items)) cells))
   pub swept : work' ≡ cleared (work_count (length items)) work
 
 -- the same for the items and values that `which` names of a table T in buckets of b rows
-abbrev pub MapBuilt : Items → ℕ → ℕ → List ℕ → List ℕ → List ℕ → ℕ → List ℕ → List ℕ → Type 0
-MapBuilt which b seed T cells work size cells' work' =
-    Built seed (items_of which b T) (values_of which b T) cells work size cells' work'
+abbrev pub MapBuilt : Items → ℕ → ℕ → List ℕ → List ℕ → List ℕ → Result (Unit {0}) ℕ → List ℕ → List ℕ → Type 0
+MapBuilt which b seed T cells work answer cells' work' =
+    Built seed (items_of which b T) (values_of which b T) cells work answer cells' work'

@@ -1,5 +1,5 @@
 -- What a build of one map determines: everything but the cells that items touch in an accepted build.
-use Rattle.std.specs.Prelude.{◌≡◌, List, ℕ, ◌<◌, length, get_or, drop}
+use Rattle.std.specs.Prelude.{◌≡◌, List, ℕ, ◌<◌, length, get_or, drop, Result, OnOk, OnErr}
 use Rattle.cells.specs.Cells.{cell_count, map_value}
 use Rattle.items.specs.Items.{items_of}
 use Rattle.items.specs.declared.Items.{Items}
@@ -17,17 +17,18 @@ pub record Alike (seed : ℕ) (items a b : List ℕ) : Type 0 where
 
 -- two outcomes of a build, each an answer, cells and work: equal where there is a jam, and up to the filling where
 -- there is none
-pub record SameOutcome (seed : ℕ) (items : List ℕ) (size : ℕ) (cells work : List ℕ) (size₂ : ℕ)
-    (cells₂ work₂ : List ℕ) : Type 0 where
-  pub answer : size ≡ size₂
+pub record SameOutcome (seed : ℕ) (items : List ℕ) (answer₁ : Result (Unit {0}) ℕ) (cells work : List ℕ)
+    (answer₂ : Result (Unit {0}) ℕ) (cells₂ work₂ : List ℕ) : Type 0 where
+  pub answer : answer₁ ≡ answer₂
   pub swept : work ≡ work₂
-  pub jammed : 0 < size → cells ≡ cells₂
-  pub filled : size ≡ 0 → Alike seed items cells cells₂
+  pub jammed : OnErr answer₁ (cells ≡ cells₂)
+  pub filled : OnOk answer₁ (Alike seed items cells cells₂)
 
 -- any two outcomes of a build on the same input are the same, up to the filling
 abbrev pub MapDetermined : Type 0
 MapDetermined =
-    (which : Items) (b seed : ℕ) (T cells work : List ℕ) (size : ℕ) (cells₁ work₁ : List ℕ) (size₂ : ℕ)
-    (cells₂ work₂ : List ℕ)
-    → MapBuilt which b seed T cells work size cells₁ work₁ → MapBuilt which b seed T cells work size₂ cells₂ work₂
-    → SameOutcome seed (items_of which b T) size cells₁ work₁ size₂ cells₂ work₂
+    (which : Items) (b seed : ℕ) (T cells work : List ℕ) (answer₁ : Result (Unit {0}) ℕ) (cells₁ work₁ : List ℕ)
+    (answer₂ : Result (Unit {0}) ℕ) (cells₂ work₂ : List ℕ)
+    → MapBuilt which b seed T cells work answer₁ cells₁ work₁
+    → MapBuilt which b seed T cells work answer₂ cells₂ work₂
+    → SameOutcome seed (items_of which b T) answer₁ cells₁ work₁ answer₂ cells₂ work₂

@@ -1,44 +1,36 @@
 // The build of one map.
-ghost use Rattle.items.specs.Items.{items_of, Known};
+ghost use Rattle.items.specs.Inner.{items_in};
 ghost use Rattle.maps.specs.Built.{Room, MapBuilt};
 
-use counts::Map;
-use items::Items;
+use counts::map::Map;
+use items::source::Source;
 
-// Builds the map from the items over buckets of b rows to their values under the seed. The answer is 0 where it is
-// built, and where the items hold a jam the size of the largest one.
-pub fn build(
-    which: Items,
-    b: usize,
-    seed: u64,
-    keys: &[u64],
-    left: &[u16],
-    right: &[u16],
-    cells: &mut [u16],
-    work: &mut [u16],
-) -> usize
-    requires { Known which b keys.now left.now right.now
-        × Room (items_of which b keys.now) cells.old work.old }
-    ensures { MapBuilt which b seed keys.now cells.old work.old result
-        cells.new work.new }
+// Builds the map from the items of the source to their values under the seed. Where the items hold a jam, the error is
+// the size of the largest one.
+pub fn build(source: &Source, seed: u64, cells: &mut [u16], work: &mut [u16]) -> Result<(), usize>
+    requires { Room (items_in source.now) cells.old work.old }
+    ensures { MapBuilt source.now.which source.now.rows.b seed source.now.rows.keys.now cells.old work.old
+        result cells.new work.new }
 {
-    let t = items::item_count(which, b, keys, left, right);
+    let t = source.count();
     let m = cells::segment_size(t);
     let mixed = words::hash::mix_seed(seed);
     let r = words::remainder::reciprocal(m as u64);
     let map = Map {
-        which,
-        b,
+        source: *source,
         mixed,
         m,
         r,
         t,
     };
-    cells::clear(cells, 3 * m);
-    let n = peels::peel_all(map, keys, left, right, work);
-    if n == t {
-        fills::fill_all(map, keys, left, right, cells, work);
-    }
-    cells::clear(work, 6 * m + 2 * t);
-    t - n
+    cells::clear(cells, 3 * m, 0);
+    let n = peels::peel_all(&map, work);
+    let answer = if n == t {
+        fills::fill_all(&map, cells, work);
+        Ok(())
+    } else {
+        Err(t - n)
+    };
+    cells::clear(work, 6 * m + 2 * t, 0);
+    answer
 }

@@ -1,6 +1,6 @@
 -- What an ask says: what each answer says is told by no other, over what an accepted build leaves it is the number of
 -- smaller keys, and over any stores at most six probes are reported. Assumes nothing.
-use mathlib.Core.Path.{◌≡◌, refl, sym, ap}
+use mathlib.Core.Path.{◌≡◌, refl, sym, ap, ◌∙◌}
 use mathlib.Core.Bool.{Bool, true, cond}
 use mathlib.Core.List.{List, []}
 use mathlib.Core.Logic.{◌↔◌}
@@ -11,42 +11,45 @@ use borrow.Author.Tests.{ltb-true, eqb-true, lt-ltb, eq-eqb}
 use lib.Dec.{eqb, ltb}
 use lib.ListN.{length}
 use Rattle.words.specs.Fat.{binary_digits}
-use Rattle.refusals.proofs.Naming.{refusal_told}
-use Rattle.cells.specs.Cells.{map_value}
+use Rattle.std.specs.Prelude.{Some, None, Result, Ok, Err}
+use Rattle.refusals.specs.Numbers.{store_number}
+use Rattle.refusals.specs.declared.Refusal.{Refusal}
+use Rattle.refusals.specs.declared.Store.{Store}
+use Rattle.refusals.proofs.Naming.{refusal_told, store_some}
+use Rattle.cells.specs.Cells.{cell_count, map_value}
 use Rattle.tables.specs.Tables.{most_keys, key_at, Table, smaller, shared_by_all}
 use Rattle.tables.specs.Lengths.{handle_count}
 use Rattle.splits.specs.Splits.{len, handle_item, handle_split, left_entry, right_entry, length_entry}
 use Rattle.splits.specs.Splits.{left_store, right_store, length_store}
 use Rattle.basics.proofs.Bools.{both, differ, past_test}
 use Rattle.tables.proofs.Rising.{keys_rise}
+use Rattle.tables.specs.Delimiters.{delimiters, Bucketed}
 use Rattle.tables.proofs.Delimiting.{delimiters_one}
 use Rattle.splits.proofs.Parents.{left_root}
 use Rattle.splits.proofs.Handles.{handles_by_items}
 use Rattle.splits.proofs.Stores.{entered_at}
 use Rattle.walks.specs.Walk.{Answer, before, spoiled, path_walk, store_walk, Stored}
 use Rattle.places.specs.Said.{NeighbourSaid, place, refused, said_by_neighbour, stands_at, told, walk_says}
-use Rattle.places.specs.Inner.{Walkable}
-use Rattle.places.specs.declared.NeighbourAnswer.{NeighbourAnswer}
-use Rattle.places.specs.declared.NeighbourAnswer.TheVariants.{At, Refused}
+use Rattle.places.specs.declared.Place.{Place}
 use Rattle.places.proofs.Telling.{same_place}
 use Rattle.neighbour.specs.Ask.{neighbour_says}
-use Rattle.stores.specs.Sizes.{short_store, Fits, neighbour_sizes}
+use Rattle.stores.specs.Sizes.{number_named, short_store, Fits, neighbour_sizes}
 use Rattle.stores.specs.Stores.{asked, sizes_of}
 use Rattle.stores.specs.declared.Sizes.{Sizes}
 use Rattle.stores.proofs.Chains.{goes_on, refuses}
-use Rattle.stores.proofs.Judging.{none_short, all_fit}
+use Rattle.stores.proofs.Judging.{none_named, all_fit}
 use Rattle.walks.proofs.Deciding.{smaller_low, smaller_high}
 use Rattle.walks.proofs.Descending.{onward_split}
 use Rattle.walks.proofs.Answering.{by_size, walk_none, walk_one, walk_probes, walk_six, path_answer, stored_walk}
 use Rattle.walks.proofs.Roots.{root_shared}
 
 -- two answers that say the same are the same
-pub said_injective : (a b : NeighbourAnswer) → said_by_neighbour a ≡ said_by_neighbour b → a ≡ b
+pub said_injective : (a b : Result Place Refusal) → said_by_neighbour a ≡ said_by_neighbour b → a ≡ b
 unfolding said_by_neighbour
-said_injective (At p) (At q) e = ap At (same_place p q (cc) (cc) (cc))
-said_injective (At p) (Refused r) e = differ (cc)
-said_injective (Refused r) (At q) e = differ (cc)
-said_injective (Refused r) (Refused q) e = ap Refused (refusal_told r q (cc) (cc))
+said_injective (Ok p) (Ok q) e = ap Ok (same_place p q (cc) (cc) (cc))
+said_injective (Ok p) (Err r) e = differ (cc)
+said_injective (Err r) (Ok q) e = differ (cc)
+said_injective (Err r) (Err q) e = ap Err (refusal_told r q (cc) (cc))
 
 -- x stands in the table exactly if some row holds it
 pub stands_iff : (T : List ℕ) → Table T → (x : ℕ)
@@ -102,11 +105,11 @@ module _ (T handles lefts rights lengths : List ℕ) (seed x : ℕ) where
   unfolding neighbour_says
   says_many h = sym (refuses _ _ h)
 
-  pub says_short : length T ≤ most_keys → {short : ℕ}
-      → short ≡ short_store (has handles lefts rights lengths) (neighbour_sizes (length T)) → 0 < short
-      → refused 4 short ≡ neighbour_says T handles lefts rights lengths seed x
+  pub says_short : length T ≤ most_keys → (store : Store)
+      → number_named (Some store) ≡ short_store (has handles lefts rights lengths) (neighbour_sizes (length T))
+      → refused 4 (store_number store) ≡ neighbour_says T handles lefts rights lengths seed x
   unfolding neighbour_says
-  says_short few is h = rw (← is) (sym (goes_on _ few (refuses _ _ h)))
+  says_short few store is = rw (← is) (sym (goes_on _ few (refuses _ _ (store_some store))))
 
   -- sizes that fit pass the tests
   pub sizes_pass : length T ≤ most_keys → Fits (has handles lefts rights lengths) (neighbour_sizes (length T))
@@ -118,21 +121,32 @@ module _ (T handles lefts rights lengths : List ℕ) (seed x : ℕ) where
       goes_on _ few (goes_on _ none refl)
 
   -- and where none is too short they fit the walk over the table, the delimiters of buckets of one row
-  pub walk_fits : length T ≤ most_keys → {short : ℕ}
-      → short ≡ short_store (has handles lefts rights lengths) (neighbour_sizes (length T)) → short ≤ 0
-      → Fits (has handles lefts rights lengths) (neighbour_sizes (length T)) × Walkable 1 T handles lefts rights lengths
-  walk_fits few is h =
-      let F = none_short (has handles lefts rights lengths) (neighbour_sizes (length T)) (omega arith) in
-      let one = delimiters_one T in (
-        F,
-        record {
-          bucketed = record { some = omega arith; most = omega arith; rows = few };
-          some_handles = rw one F.handles;
-          some_lefts = rw one F.left;
-          some_rights = rw one F.right;
-          some_lengths = rw one F.lengths;
-        },
-      )
+  module _ (few : length T ≤ most_keys)
+      (none : number_named None ≡ short_store (has handles lefts rights lengths) (neighbour_sizes (length T))) where
+    fits : Fits (has handles lefts rights lengths) (neighbour_sizes (length T))
+    fits = none_named (has handles lefts rights lengths) (neighbour_sizes (length T)) none
+
+    -- the table itself in buckets of one row, and stores with room for a search over it
+    pub one_row : Bucketed 1 T
+    one_row = record { some = omega arith; most = omega arith; rows = few }
+
+    pub handles_fit : {k : ℕ} → k ≡ length (delimiters 1 T) → cell_count (handle_count k) ≤ length handles
+    handles_fit e = rw (e, delimiters_one T) fits.handles
+
+    pub lefts_fit : {k : ℕ} → k ≡ length (delimiters 1 T) → k ≤ length lefts
+    lefts_fit e = rw (e, delimiters_one T) fits.left
+
+    pub rights_fit : {k : ℕ} → k ≡ length (delimiters 1 T) → k ≤ length rights
+    rights_fit e = rw (e, delimiters_one T) fits.right
+
+    pub lengths_fit : {k : ℕ} → k ≡ length (delimiters 1 T) → k ≤ length lengths
+    lengths_fit e = rw (e, delimiters_one T) fits.lengths
+
+    pub says_walk : {said : NeighbourSaid} → said ≡ walk_says (delimiters 1 T) handles lefts rights lengths seed x
+        → said ≡ neighbour_says T handles lefts rights lengths seed x
+    says_walk e = rw (delimiters_one T) at e ∙ sym (sizes_pass few fits)
+
+pub ruleset as_asked = (says_many, says_short, one_row, handles_fit, lefts_fit, rights_fit, lengths_fit, says_walk)
 
 -- over any stores at most six probes are reported
 module _ (c p : ℕ) (s : Bool) where

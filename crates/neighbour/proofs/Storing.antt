@@ -5,6 +5,7 @@ use Prim.Native.Nat.{ℕ, ◌≤◌}
 use native.Mathlib.Omega.{arith}
 use lib.ListN.{length, drop}
 use lib.Seq.{drop_at}
+use Rattle.std.specs.Prelude.{Result, Ok}
 use Rattle.cells.specs.Cells.{work_count}
 use Rattle.cells.specs.Memory.{cleared}
 use Rattle.cells.proofs.Sweeping.{cleared_within}
@@ -54,9 +55,9 @@ storable {keys = keys} {k = k} is t counted fewer hl ll rl wl nl = record {
 }
 
 -- what the build of the stores leaves
-module _ {T : List ℕ} {seed : ℕ} {handles left right work lengths : List ℕ} {size : ℕ}
+module _ {T : List ℕ} {seed : ℕ} {handles left right work lengths : List ℕ} {answer : Result (Unit {0}) ℕ}
     {handles' left' right' work' lengths' : List ℕ}
-    (B : StoresBuilt T seed handles left right work lengths size handles' left' right' work' lengths') where
+    (B : StoresBuilt T seed handles left right work lengths answer handles' left' right' work' lengths') where
   -- the work is that of a map before it, which was longer
   pub swept_after : (n : ℕ) (old : List ℕ) → length T ≤ n → work ≡ cleared (call_work n) old
       → work' ≡ cleared (call_work n) old
@@ -80,9 +81,8 @@ module _ {T : List ℕ} {seed : ℕ} {handles left right work lengths : List ℕ
     lengths_beyond = rw (← is) (ap (drop (length T)) B.lens ∙ written_beyond (length T) (length_entry T) lengths)
 
 -- where there is no jam the neighbour index is there
-pub stores_filled : {T : List ℕ} {seed : ℕ} {S : Stores} (S' : Stores) {work work' : List ℕ} {size : ℕ}
-    → StoresBuilt T seed S.handles S.left S.right work S.lengths size S'.handles S'.left S'.right
+pub stores_filled : {T : List ℕ} {seed : ℕ} {S : Stores} (S' : Stores) {work work' : List ℕ}
+    → StoresBuilt T seed S.handles S.left S.right work S.lengths (Ok tt) S'.handles S'.left S'.right
     work' S'.lengths
-    → size ≡ 0 → NeighbourFilled T seed S S'
-stores_filled S' B e =
-    record { handles = (B.map₃.accepted e).1; left = B.lefts; right = B.rights; lengths = B.lens }
+    → NeighbourFilled T seed S S'
+stores_filled S' B = record { handles = B.map₃.accepted.1; left = B.lefts; right = B.rights; lengths = B.lens }

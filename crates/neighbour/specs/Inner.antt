@@ -1,5 +1,5 @@
 -- What only the contracts of inner functions need: what the stores can be built into, and what is built.
-use Rattle.std.specs.Prelude.{◌≡◌, List, ℕ, ◌≤◌, length}
+use Rattle.std.specs.Prelude.{◌≡◌, Result, List, ℕ, ◌≤◌, length}
 use Rattle.cells.specs.Cells.{work_count}
 use Rattle.tables.specs.Tables.{Table}
 use Rattle.tables.specs.Delimiters.{delimiters, Bucketed}
@@ -8,7 +8,8 @@ use Rattle.splits.specs.Splits.{left_store, right_store, length_store}
 use Rattle.items.specs.Items.{handle_items, handle_splits}
 use Rattle.maps.specs.Built.{Built}
 
--- a table whose delimiters are counted, and stores and work with room for them
+-- a table whose delimiters are counted, and stores and work with room for them. The limits of b stand here too, though
+-- `Delimiters` has them: so the clause, and each law over it, is whole without the value that the table comes in
 pub record Storable (b : ℕ) (keys handles left right work lengths : List ℕ) : Type 0 where
   pub table : Table keys
   pub bucketed : Bucketed b keys
@@ -19,9 +20,9 @@ pub record Storable (b : ℕ) (keys handles left right work lengths : List ℕ) 
   pub lengths_long : length (delimiters b keys) ≤ length lengths
 
 -- the bounds and the lengths of the splits of T are written, and map 3 is built, or jammed
-pub record StoresBuilt (T : List ℕ) (seed : ℕ) (handles left right work lengths : List ℕ) (size : ℕ)
+pub record StoresBuilt (T : List ℕ) (seed : ℕ) (handles left right work lengths : List ℕ) (answer : Result (Unit {0}) ℕ)
     (handles' left' right' work' lengths' : List ℕ) : Type 0 where
-  pub map₃ : Built seed (handle_items T) (handle_splits T) handles work size handles' work'
+  pub map₃ : Built seed (handle_items T) (handle_splits T) handles work answer handles' work'
   pub lefts : left' ≡ left_store T left
   pub rights : right' ≡ right_store T right
   pub lens : lengths' ≡ length_store T lengths

@@ -10,4 +10,4 @@ pub mod ask;
 pub mod build;
 
 pub use ask::neighbour_ask;
-pub use places::{NeighbourAnswer, Place};
+pub use places::Place;

@@ -1,9 +1,6 @@
 -- What `mark` asks for, the tests of the entry passed.
-use Rattle.std.specs.Prelude.{List, ℕ, ◌<◌, length}
-use Rattle.outcomes.specs.declared.Located.{Located}
-use Rattle.outcomes.specs.declared.Located.TheVariants.{At, Nowhere}
+use Rattle.std.specs.Prelude.{◌≡◌, Option, Some, List, ℕ, ◌<◌, length}
 
 -- a row has a byte
-abbrev pub HasByte : List ℕ → Located → Type 0
-HasByte bytes (At r) = r < length bytes
-HasByte bytes Nowhere = Unit {0}
+abbrev pub HasByte : List ℕ → Option ℕ → Type 0
+HasByte bytes at = (r : ℕ) → at ≡ Some r → r < length bytes

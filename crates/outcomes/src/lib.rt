@@ -9,13 +9,6 @@ ghost use Rattle.std.specs.Prelude.{◌≡◌};
 ghost use Rattle.outcomes.specs.Outcomes.{row_says, marked, told_by};
 ghost use Rattle.outcomes.specs.Inner.{HasByte};
 
-// The row in which a key is found, if any. No byte is asked for that.
-#[derive(Clone, Copy)]
-pub enum Located {
-    At(usize),
-    Nowhere,
-}
-
 // What is answered of a key. A withdrawn run keeps its row.
 #[derive(Clone, Copy)]
 pub enum Outcome {
@@ -24,28 +17,25 @@ pub enum Outcome {
     Absent,
 }
 
-// A key is found in the row only where the table's key there is the same: a map says something of every key.
-pub fn compared(keys: &[u64], row: usize, x: u64) -> Located
+// The row, if the key is found there: only where the table's key is the same, since a map says something of every key.
+// No byte is asked for that.
+pub fn compared(keys: &[u64], row: usize, x: u64) -> Option<usize>
     ensures { result ≡ row_says keys.now row x }
 {
-    if row < keys.len() {
-        if keys[row] == x {
-            return Located::At(row);
-        }
+    if keys.get(row) == Some(&x) {
+        return Some(row);
     }
-    Located::Nowhere
+    None
 }
 
 // Zero is planned, anything else withdrawn.
-pub fn mark(bytes: &[u8], at: Located) -> Outcome
+pub fn mark(bytes: &[u8], at: Option<usize>) -> Outcome
     requires { HasByte bytes.now at }
     ensures { told_by result ≡ marked bytes.now at }
 {
-    let Located::At(row) = at else {
-        return Outcome::Absent;
-    };
-    if bytes[row] == 0 {
-        return Outcome::Planned(row);
+    match at {
+        None => Outcome::Absent,
+        Some(row) if bytes[row] == 0 => Outcome::Planned(row),
+        Some(row) => Outcome::Withdrawn(row),
     }
-    Outcome::Withdrawn(row)
 }

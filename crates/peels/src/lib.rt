@@ -8,10 +8,10 @@
 
 ghost use Rattle.std.specs.Prelude.{◌+◌, ◌*◌, ◌<◌, ◌≤◌, length};
 ghost use Rattle.jams.specs.Inner.Work.{AllSeen, Tryable, CellTried};
-ghost use Rattle.counts.specs.Inner.{Ready, AtTurn};
+ghost use Rattle.counts.specs.Inner.{AtTurn};
 ghost use Rattle.peels.specs.Inner.{Queued};
 
-use counts::Map;
+use counts::map::Map;
 
 // Gives the one item that is left at cell c its turn, where there is one that has none yet. The answer is how many have
 // theirs.
@@ -24,7 +24,7 @@ fn try_cell(work: &mut [u16], cap: usize, t: usize, n: usize, c: usize) -> usize
     }
     let x = cap + c;
     let i = work[x];
-    let y = cap + cap + i as usize;
+    let y = cap + cap + usize::from(i);
     if work[y] != 0 {
         return n;
     }
@@ -35,45 +35,32 @@ fn try_cell(work: &mut [u16], cap: usize, t: usize, n: usize, c: usize) -> usize
 }
 
 // Counts all items, and tries each cell once. The answer is how many items have their turn.
-fn scan(map: Map, keys: &[u64], left: &[u16], right: &[u16], work: &mut [u16]) -> usize
-    requires { Ready map keys.now left.now right.now × (6 * map.m + 2 * map.t ≤ length work.old) }
-    ensures { Queued map keys.now left.now right.now work.old
-        work.new 0 result }
+fn scan(map: &Map, work: &mut [u16]) -> usize
+    requires { 6 * map.now.m + 2 * map.now.t ≤ length work.old }
+    ensures { Queued map.now work.old work.new 0 result }
 {
     let m = map.m;
     let t = map.t;
-    cells::clear(work, 6 * m + t);
-    counts::count_all(map, keys, left, right, work);
+    cells::clear(work, 6 * m + t, 0);
+    counts::count_all(map, work);
     let mut n = 0;
-    let mut c = 0;
-    while c < 3 * m {
+    for c in 0..3 * m {
         n = try_cell(work, 3 * m, t, n, c);
-        c += 1;
     }
     n
 }
 
 // Takes out the item of turn q, and tries its three cells. The answer is how many items have their turn.
-fn take_turn(
-    map: Map,
-    keys: &[u64],
-    left: &[u16],
-    right: &[u16],
-    work: &mut [u16],
-    q: usize,
-    n: usize,
-) -> usize
-    requires { AtTurn map keys.now left.now right.now work.old q n × AllSeen (3 * map.m) work.old
-        × (q < n) }
-    ensures { Queued map keys.now left.now right.now work.old
-        work.new (q + 1) result }
+fn take_turn(map: &Map, work: &mut [u16], q: usize, n: usize) -> usize
+    requires { AtTurn map.now work.old q n × AllSeen (3 * map.now.m) work.old × (q < n) }
+    ensures { Queued map.now work.old work.new (q + 1) result }
 {
     let m = map.m;
     let t = map.t;
     let cap = 3 * m;
     let x = cap + cap + t + q;
     let i = work[x];
-    let at = counts::cells_at(map, keys, left, right, i as usize);
+    let at = map.cells_at(usize::from(i));
     counts::take_item(work, cap, at, i);
     let n1 = try_cell(work, cap, t, n, at.first);
     let n2 = try_cell(work, cap, t, n1, at.second);
@@ -82,15 +69,15 @@ fn take_turn(
 
 // Peels as many items as can be: takes the turns in order, those given on the way too. The answer is how many are
 // peeled.
-pub fn peel_all(map: Map, keys: &[u64], left: &[u16], right: &[u16], work: &mut [u16]) -> usize
-    requires { Ready map keys.now left.now right.now × (6 * map.m + 2 * map.t ≤ length work.old) }
-    ensures { Queued map keys.now left.now right.now work.old
-        work.new result result }
+pub fn peel_all(map: &Map, work: &mut [u16]) -> usize
+    requires { 6 * map.now.m + 2 * map.now.t ≤ length work.old }
+    ensures { Queued map.now work.old work.new result result }
 {
-    let mut n = scan(map, keys, left, right, work);
+    let mut n = scan(map, work);
     let mut q = 0;
+    // A range fixes its end, and each turn may give more turns.
     while q < n {
-        n = take_turn(map, keys, left, right, work, q, n);
+        n = take_turn(map, work, q, n);
         q += 1;
     }
     n

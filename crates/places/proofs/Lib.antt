@@ -1,4 +1,2 @@
--- The laws of the definitions in specs/, above those of `walks`.
---   Ending: the end of the walk, case by case     Telling: what an answer says, case by case of the walk
-pub mod Ending
+-- Telling: what two places tell, and the walk past the root.
 pub mod Telling

@@ -1,13 +1,14 @@
--- What only the contracts of inner functions need: the sizes of what is lent.
+-- What only the contracts of inner functions need: bounds that fit a search, and what its walk says.
 use Rattle.std.specs.Prelude.{List, ℕ, ◌≤◌, length}
-use Rattle.cells.specs.Cells.{cell_count}
-use Rattle.tables.specs.Delimiters.{delimiters, Bucketed}
-use Rattle.tables.specs.Lengths.{handle_count}
+use Rattle.tables.specs.Inner.{listing}
+use Rattle.descent.specs.declared.search.Search.{Search}
+use Rattle.places.specs.Said.{NeighbourSaid, walk_says}
 
--- a table and stores of fitting sizes
-pub record Walkable (b : ℕ) (keys handles lefts rights lengths : List ℕ) : Type 0 where
-  pub bucketed : Bucketed b keys
-  pub some_handles : cell_count (handle_count (length (delimiters b keys))) ≤ length handles
-  pub some_lefts : length (delimiters b keys) ≤ length lefts
-  pub some_rights : length (delimiters b keys) ≤ length rights
-  pub some_lengths : length (delimiters b keys) ≤ length lengths
+-- the stores of the bounds have an entry for each delimiter
+pub record Bounded (s : Search) (lefts rights : List ℕ) : Type 0 where
+  pub lefts_long : s.rows.count ≤ length lefts
+  pub rights_long : s.rows.count ≤ length rights
+
+-- the walk over the search's delimiters and stores, with these bounds
+abbrev pub search_says : Search → List ℕ → List ℕ → ℕ → NeighbourSaid
+search_says s lefts rights x = walk_says (listing s.rows) s.handles.now lefts rights s.lengths.now s.seed x

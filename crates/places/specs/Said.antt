@@ -1,13 +1,13 @@
 -- Document 01, "The walk": what an answer says, in the document's numbers, and what the walk says over any table and
 -- stores.
-use Rattle.std.specs.Prelude.{Bool, ◌&&◌, List, ℕ, eqb, ltb, length}
+use Rattle.std.specs.Prelude.{Bool, ◌&&◌, Result, Ok, Err, List, ℕ, eqb, ltb, length}
 use Rattle.refusals.specs.Numbers.{number, names}
+use Rattle.refusals.specs.declared.Refusal.{Refusal}
 use Rattle.cells.specs.Cells.{map_value}
 use Rattle.tables.specs.Tables.{key_at}
 use Rattle.tables.specs.Lengths.{handle_count}
 use Rattle.walks.specs.Walk.{Answer, before, spoiled, store_walk}
-use Rattle.places.specs.declared.NeighbourAnswer.{NeighbourAnswer}
-use Rattle.places.specs.declared.NeighbourAnswer.TheVariants.{At, Refused}
+use Rattle.places.specs.declared.Place.{Place}
 
 -- what an ask says: the number before, the probe count and whether x stands in the table; or a refusal's number and
 -- what it names
@@ -16,9 +16,9 @@ pub data NeighbourSaid : Type 0 where
   refused : (number names : ℕ) → NeighbourSaid
 
 -- what each answer says
-unfoldable pub said_by_neighbour : NeighbourAnswer → NeighbourSaid
-said_by_neighbour (At p) = place p.before p.probes p.stands
-said_by_neighbour (Refused r) = refused (number r) (names r)
+unfoldable pub said_by_neighbour : Result Place Refusal → NeighbourSaid
+said_by_neighbour (Ok p) = place p.before p.probes p.stands
+said_by_neighbour (Err r) = refused (number r) (names r)
 
 -- x stands in the table: the number before is below n, and the key there equals x
 abbrev pub stands_at : List ℕ → ℕ → ℕ → Bool

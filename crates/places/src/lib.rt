@@ -2,22 +2,20 @@
 // rows; with b = 1 they are the table itself. The lengths of the splits, the root's too, are those that the store of
 // lengths holds (request Six).
 //
-// Every function is proved and the crate assumes nothing. Its functions ask for a table and stores that were seen to
-// fit.
+// Every function is proved and the crate assumes nothing. Its functions take a search, whose table and stores were seen
+// to fit, and beside it the bounds of the splits, which the probes don't read.
 #![tactic(auto)]
 
-ghost use Rattle.std.specs.Prelude.{◌≡◌, ◌≤◌, ◌<◌, length};
-ghost use Rattle.tables.specs.Delimiters.{delimiters};
-ghost use Rattle.splits.specs.Inner.{SplitOf, CountOf};
+ghost use Rattle.std.specs.Prelude.{◌≡◌, ◌≤◌, ◌<◌};
+ghost use Rattle.tables.specs.Inner.{listing};
+ghost use Rattle.splits.specs.Inner.{SplitOf};
 ghost use Rattle.walks.specs.Walk.{before, decide};
-ghost use Rattle.descent.specs.Inner.{Lent};
-ghost use Rattle.places.specs.Said.{said_by_neighbour, told, walk_says};
-ghost use Rattle.places.specs.Inner.{Walkable};
+ghost use Rattle.places.specs.Said.{said_by_neighbour, told};
+ghost use Rattle.places.specs.Inner.{Bounded, search_says};
 
-use descent::{agrees, descend};
+use descent::search::Search;
 use refusals::Refusal;
-use splits::split::{entry_at, length_at};
-use tables::delimiter::{delimiter_at, delimiter_count};
+use tables::delimiters::Delimiters;
 
 // Where x stands: the keys before it, the probes made, and whether it is in the table.
 #[derive(Clone, Copy)]
@@ -27,134 +25,82 @@ pub struct Place {
     pub stands: bool,
 }
 
-#[derive(Clone, Copy)]
-pub enum NeighbourAnswer {
-    At(Place),
-    Refused(Refusal),
-}
-
 // The answer that c keys stand before x, after so many probes.
-fn tell(keys: &[u64], b: usize, n: usize, x: u64, probes: usize, c: usize) -> NeighbourAnswer
-    requires { CountOf b keys.now n }
-    ensures { said_by_neighbour result ≡ told (delimiters b keys.now) x probes (before c) }
+#[tactic(auto, unfolding(crate::specs::Said::said_by_neighbour, crate::specs::Said::told))]
+fn tell(rows: &Delimiters, x: u64, probes: usize, c: usize) -> Place
+    ensures { said_by_neighbour (Ok result) ≡ told (listing rows.now) x probes (before c) }
 {
-    if c < n {
-        let stands = delimiter_at(keys, b, c) == x;
-        return NeighbourAnswer::At(Place {
-            before: c,
-            probes: probes,
-            stands: stands,
-        });
-    }
-    NeighbourAnswer::At(Place {
+    let stands = c < rows.count && rows.at(c) == x;
+    Place {
         before: c,
-        probes: probes,
-        stands: false,
-    })
+        probes,
+        stands,
+    }
 }
 
 // The end of the walk at split m of length l, whose rows are said to go from `first` up to `end`.
+#[tactic(auto, unfolding(crate::specs::Said::said_by_neighbour, crate::specs::Said::told, walks::specs::Walk::decide))]
 fn decide(
-    keys: &[u64],
-    b: usize,
-    n: usize,
+    rows: &Delimiters,
     x: u64,
     probes: usize,
     first: usize,
     m: usize,
     end: usize,
     l: u32,
-) -> NeighbourAnswer
-    requires { CountOf b keys.now n × SplitOf b keys.now m × (l < 64) }
-    ensures { said_by_neighbour result ≡ told (delimiters b keys.now) x probes
-        (decide (delimiters b keys.now) x l first m end) }
+) -> Result<Place, Refusal>
+    requires { SplitOf (listing rows.now) m × (l < 64) }
+    ensures { said_by_neighbour result ≡ told (listing rows.now) x probes
+        (decide (listing rows.now) x l first m end) }
 {
-    if first >= m {
-        return NeighbourAnswer::Refused(Refusal::Spoiled);
+    if first >= m || m >= end || end > rows.count {
+        return Err(Refusal::Spoiled);
     }
-    if m >= end {
-        return NeighbourAnswer::Refused(Refusal::Spoiled);
-    }
-    if end > n {
-        return NeighbourAnswer::Refused(Refusal::Spoiled);
-    }
-    if (x >> (63 - l)) % 2 == 0 {
-        if x <= delimiter_at(keys, b, first) {
-            return tell(keys, b, n, x, probes, first);
-        }
-        return tell(keys, b, n, x, probes, m);
-    }
-    if x <= delimiter_at(keys, b, m) {
-        return tell(keys, b, n, x, probes, m);
-    }
-    tell(keys, b, n, x, probes, end)
+    let (low, high) = if (x >> (63 - l)) % 2 == 0 {
+        (first, m)
+    } else {
+        (m, end)
+    };
+    let c = if x <= rows.at(low) { low } else { high };
+    Ok(tell(rows, x, probes, c))
 }
 
 // The walk for two keys or more.
-fn walk_splits(
-    keys: &[u64],
-    b: usize,
-    n: usize,
-    seed3: u64,
-    handles: &[u16],
-    left: &[u16],
-    right: &[u16],
-    lengths: &[u8],
-    x: u64,
-) -> NeighbourAnswer
-    requires { Lent b keys.now n handles.now lengths.now × (2 ≤ n) × (n ≤ length left.now) ×
-        (n ≤ length right.now) }
-    ensures { said_by_neighbour result ≡ walk_says (delimiters b keys.now) handles.now
-        left.now right.now lengths.now seed3 x }
+fn walk_splits(search: &Search, left: &[u16], right: &[u16], x: u64) -> Result<Place, Refusal>
+    requires { Bounded search.now left.now right.now × (2 ≤ search.now.rows.count) }
+    ensures { said_by_neighbour result ≡ search_says search.now left.now right.now x }
 {
-    let root = entry_at(left, 0);
-    if root == 0 {
-        return NeighbourAnswer::Refused(Refusal::Spoiled);
+    let rows = &search.rows;
+    let root = usize::from(left[0]);
+    if root == 0 || root >= rows.count || search.lengths[root] > 63 {
+        return Err(Refusal::Spoiled);
     }
-    if root >= n {
-        return NeighbourAnswer::Refused(Refusal::Spoiled);
-    }
-    let l = length_at(lengths, root);
-    if l > 63 {
-        return NeighbourAnswer::Refused(Refusal::Spoiled);
-    }
-    if agrees(keys, b, x, root, l) {
-        let d = descend(keys, b, n, seed3, handles, lengths, x, root, l);
+    let l = u32::from(search.lengths[root]);
+    if descent::agrees(rows, x, root, l) {
+        let d = search.descend(x, root, l);
         let node = d.node;
-        let first = entry_at(left, node);
-        let end = entry_at(right, node);
-        return decide(keys, b, n, x, d.probes, first, node, end, d.lower);
+        let first = usize::from(left[node]);
+        let end = usize::from(right[node]);
+        return decide(rows, x, d.probes, first, node, end, d.lower);
     }
-    if x <= delimiter_at(keys, b, root) {
-        return tell(keys, b, n, x, 0, 0);
-    }
-    tell(keys, b, n, x, 0, n)
+    let c = if x <= rows.at(root) { 0 } else { rows.count };
+    Ok(tell(rows, x, 0, c))
 }
 
-// The walk over the delimiters, for a table and stores of fitting sizes.
-pub fn walk_from(
-    keys: &[u64],
-    b: usize,
-    seed3: u64,
-    handles: &[u16],
-    left: &[u16],
-    right: &[u16],
-    lengths: &[u8],
-    x: u64,
-) -> NeighbourAnswer
-    requires { Walkable b keys.now handles.now left.now right.now lengths.now }
-    ensures { said_by_neighbour result ≡ walk_says (delimiters b keys.now) handles.now
-        left.now right.now lengths.now seed3 x }
+// The walk over the delimiters.
+#[tactic(auto, unfolding(crate::specs::Said::walk_says, walks::specs::Walk::store_walk, walks::specs::Walk::walk))]
+pub fn walk_from(search: &Search, left: &[u16], right: &[u16], x: u64) -> Result<Place, Refusal>
+    requires { Bounded search.now left.now right.now }
+    ensures { said_by_neighbour result ≡ search_says search.now left.now right.now x }
 {
-    let n = delimiter_count(keys, b);
-    if n == 0 {
-        return tell(keys, b, n, x, 0, 0);
+    let rows = &search.rows;
+    if rows.count < 2 {
+        let c = if rows.count == 0 || x <= rows.at(0) {
+            0
+        } else {
+            1
+        };
+        return Ok(tell(rows, x, 0, c));
     }
-    if n == 1 {
-        if x <= delimiter_at(keys, b, 0) {
-            return tell(keys, b, n, x, 0, 0);
-        }
-        return tell(keys, b, n, x, 0, 1);
-    }
-    walk_splits(keys, b, n, seed3, handles, left, right, lengths, x)
+    walk_splits(search, left, right, x)
 }

@@ -6,10 +6,10 @@ use borrow.Author.Count.{below_more}
 use native.Mathlib.Omega.{arith}
 use lib.ListN.{length, take, drop, length-append}
 use lib.Seq.{take_at, length-take-le}
+use Rattle.refusals.specs.Numbers.{number}
 use Rattle.refusals.specs.declared.Refusal.{Refusal}
 use Rattle.rowinput.specs.Input.{Fine, InputHeld, ReadsInput}
-use Rattle.rowinput.specs.declared.Input.{Input}
-use Rattle.rowinput.specs.declared.Input.TheVariants.{Taken, Refused}
+use Rattle.std.specs.Prelude.{Err}
 use Rattle.rowoutput.specs.Output.{refused_text, jam_text}
 use Rattle.seeds.specs.Seeds.{SeedJams}
 use Rattle.seeds.specs.Inner.{Refuses, bad_bucket, falling, Jams}
@@ -52,20 +52,15 @@ module _ {s keys asks keys' asks' : List ℕ} {b n m : ℕ}
       let fine : Fine 2048 512 b H.ks H.qs = fine_within (omega arith) (omega arith) H.fine in
       (S.0, (good_text b H.ks H.qs fine H.text (rw (ks, qs) at S.1.0), S.1.1))
 
-module _ (s keys asks keys' asks' : List ℕ) {r : Input} (R : ReadsInput s keys asks keys' asks' r) where
-  pub taken_holds : {b n m : ℕ} → r ≡ Taken b n m
-      → InputHeld (min (length keys) 2048) (min (length asks) 512) s b n m keys asks keys' asks'
-  unfolding ReadsInput
-  taken_holds e = rw e at R
-
-  -- what was refused is no input, since there was room for all that is allowed
-  pub refused_shows : length keys ≡ 2048 → length asks ≡ 512 → {f : Refusal} → r ≡ Refused f
-      → {before : List ℕ} {count : ℕ} {after : List ℕ} → ShownWhereRoom (refused_text 8) before count after
-      → ShowsWhereRoom (RowcheckText s) before count after
-  unfolding ReadsInput
-  refused_shows k a e S =
-      let none = (rw e at R).1 in
-      (refused_text 8, (bad_text (λ b ks qs F t. none b ks qs (fine_within (omega arith) (omega arith) F) t) refl, S))
+-- what was refused is no input, since there was room for all that is allowed
+pub refused_shows : (s keys asks keys' asks' : List ℕ) (f : Refusal) → ReadsInput s keys asks keys' asks' (Err f)
+    → length keys ≡ 2048 → length asks ≡ 512
+    → {before : List ℕ} {count : ℕ} {after : List ℕ} → ShownWhereRoom (refused_text (number f)) before count after
+    → ShowsWhereRoom (RowcheckText s) before count after
+unfolding ReadsInput
+refused_shows s keys asks keys' asks' f R k a S =
+    let none = bad_text (λ b ks qs F t. R.1 b ks qs (fine_within (omega arith) (omega arith) F) t) refl in
+    (refused_text 8, (none, rw R.0 at S))
 
 -- the text of a table's refusal, and of a jam under the last seed after jams under all others
 pub refuses_text : {keys : List ℕ} {b k : ℕ} (asks : List ℕ) → Refuses keys b k → TableText keys b asks (refused_text k)

@@ -9,6 +9,7 @@ use native.Mathlib.Decide.{dec_le}
 use native.Mathlib.Omega.{arith}
 use lib.ListN.{length, take, length-append}
 use lib.Seq.{take_all, length-take-le}
+use Rattle.std.specs.Prelude.{Some, None}
 use Rattle.tables.specs.Tables.{Table, smaller}
 use Rattle.walks.specs.Walk.{path_walk}
 use Rattle.neighbour.specs.Ask.{stands_at}
@@ -20,7 +21,6 @@ use Rattle.digits.specs.Texts.{bytes}
 use Rattle.lines.specs.Lines.{texts}
 use Rattle.rowinput.specs.Input.{NoInput}
 use Rattle.rowoutput.specs.Output.{head_text, answers_text}
-use Rattle.rowoutput.specs.declared.Called.TheVariants.{Row, Absent}
 use Rattle.rowinput.proofs.Determined.{longest}
 use Rattle.rowoutput.proofs.Printing.{Narrow, decimal_longest, ask_longest, jam_longest}
 use Rattle.rowoutput.specs.Output.{refused_text}
@@ -39,7 +39,7 @@ texts_longest f most each (x ∷ xs) =
     let more : most * suc (length xs) ≡ most * length xs + most = mul-suc most (length xs) in
     omega (arith, length-append (f x) (texts f xs))
 
-narrow : (s : Bool) (c : ℕ) → c < 2 ^ 64 → Narrow (cond s (Row c) Absent)
+narrow : (s : Bool) (c : ℕ) → c < 2 ^ 64 → Narrow (cond s (Some c) None)
 narrow true c h = h
 narrow false c h = tt
 
@@ -52,7 +52,7 @@ module _ (keys : List ℕ) (t : Table keys) (few : length keys ≤ 2048) where
   ask_most x =
       let c : smaller keys x < 2 ^ 64 = omega (arith, smaller_most keys t x) in
       let p : probes_of keys x < 2 ^ 64 = omega (arith, few_probes keys x) in
-      ask_longest x (row_of Row Absent keys x) (smaller keys x) (probes_of keys x)
+      ask_longest x (row_of Some None keys x) (smaller keys x) (probes_of keys x)
       (narrow (stands_at keys x (smaller keys x)) (smaller keys x) c) c p
 
   answered_longest : (asks : List ℕ) → length asks ≤ 512 → length (answered keys asks) ≤ 52762

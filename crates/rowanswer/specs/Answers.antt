@@ -1,18 +1,17 @@
 -- Document 01, "`rowcheck`", and request Five: what is printed of a table and its asks. The answers depend on the table
 -- alone: no seed and no store occurs in them.
-use Rattle.std.specs.Prelude.{◌≡◌, List, ◌++◌, ◌⊎◌, ◌↔◌, ℕ, ◌≤◌, ◌<◌, length, take, drop}
+use Rattle.std.specs.Prelude.{Some, None, ◌≡◌, List, ◌++◌, ◌⊎◌, ◌↔◌, ℕ, ◌≤◌, ◌<◌, length, take, drop}
 use Rattle.tables.specs.Tables.{Table, smaller, first_fall}
 use Rattle.stores.specs.Stores.{same}
 use Rattle.full.specs.Build.{FirstJam}
 use Rattle.index.specs.Answers.{row_of, probes_of}
 use Rattle.rowinput.specs.Input.{row_text, Fine, NoInput}
 use Rattle.rowoutput.specs.Output.{answers_text, refused_text, jam_text}
-use Rattle.rowoutput.specs.declared.Called.TheVariants.{Row, Absent}
 use Rattle.seeds.specs.Seeds.{SeedJams, SeedTaken}
 
 -- all that is printed of a table and its asks, where some seed is taken
 abbrev pub answered : List ℕ → List ℕ → List ℕ
-answered keys asks = answers_text (length keys) (row_of Row Absent keys) (smaller keys) (probes_of keys) asks
+answered keys asks = answers_text (length keys) (row_of Some None keys) (smaller keys) (probes_of keys) asks
 
 -- what is printed of a bucket size, keys and asks: refusal 2, then 3, then 5 where all the seeds 0 to 255 jam, with the
 -- size of the largest jam of the first jammed map under seed 255; and otherwise the answers

@@ -1,11 +1,9 @@
 -- Document 01's input and what it prints, and the smallest and largest numbers, as the definitions have them.
-use Rattle.std.specs.Prelude.{ℕ, ◌-◌, cond, List, [], ◌∷◌, ◌++◌, ◌≡◌, eqb}
+use Rattle.std.specs.Prelude.{Option, Some, None, ℕ, ◌-◌, cond, List, [], ◌∷◌, ◌++◌, ◌≡◌, eqb}
 use Rattle.digits.specs.Texts.{bytes}
 use Rattle.digits.specs.Numbers.{decimal_text, hex_text, most_word}
 use Rattle.rowinput.specs.Input.{row_text}
 use Rattle.rowoutput.specs.Output.{answers_text, refused_text, jam_text}
-use Rattle.rowoutput.specs.declared.Called.{Called}
-use Rattle.rowoutput.specs.declared.Called.TheVariants.{Row, Absent}
 
 -- bucket 2 and keys 2, 3, 8, asks 3, 9, 16, 0
 abbrev sample_input : List ℕ
@@ -22,8 +20,8 @@ sample_output =
     ++ bytes "ask=0000000000000000\ncall=none\nbefore=0\nprobes=2\n"))
 
 -- the row or none of each ask
-abbrev sample_call : ℕ → Called
-sample_call x = cond (eqb x 3) (Row 1) Absent
+abbrev sample_call : ℕ → Option ℕ
+sample_call x = cond (eqb x 3) (Some 1) None
 
 -- how many keys are smaller than each ask
 abbrev sample_before : ℕ → ℕ

@@ -1,64 +1,45 @@
 // What rowcheck prints of an input, from the text to the text.
 ghost use Rattle.std.specs.Prelude.{◌≡◌, ◌≤◌, length};
 ghost use Rattle.io.specs.Counts.{IsPrefixLen};
-ghost use Rattle.stores.specs.Stores.{asked, same};
-ghost use Rattle.index.specs.Answers.{Answers};
 ghost use Rattle.refusals.specs.Numbers.{number};
 ghost use Rattle.rowoutput.specs.Output.{refused_text, jam_text};
 ghost use Rattle.rowanswer.specs.Answers.{answered, TableText, RowcheckText, Shows};
 ghost use Rattle.rowanswer.specs.Inner.{ShownWhereRoom, ShowsWhereRoom};
 
-use asks::answer_asks;
-use digits::Next;
-use index::Refusal;
-use rowinput::{Input, read_input};
+use asks::indexes::Indexes;
+use index::{Refusal, Unbuilt};
+use rowinput::read_input;
 use rowoutput::{write_head, write_jam, write_refusal};
-use seeds::{Choice, first_seed};
+use seeds::first_seed;
 
 // The refusal at the start of `out`, and how many bytes.
 fn refuse(out: &mut [u8], refusal: Refusal) -> usize
     ensures { ShownWhereRoom (refused_text (number refusal)) out.old result out.new }
 {
-    write_refusal(out, 0, refusal).or(0)
+    write_refusal(out, 0, refusal).unwrap_or(0)
 }
 
 // The same of a jam: refusal 5, and the size.
 fn refuse_jam(out: &mut [u8], size: usize) -> usize
     ensures { ShownWhereRoom (jam_text size) out.old result out.new }
 {
-    write_jam(out, 0, size).or(0)
+    write_jam(out, 0, size).unwrap_or(0)
 }
 
-// The head line and the lines of all asks. No run is withdrawn here: a byte of zero is lent for each row.
-fn print_answers(
-    keys: &[u64],
-    b: usize,
-    seed: u64,
-    cells: &[u16],
-    handles: &[u16],
-    left: &[u16],
-    right: &[u16],
-    lengths: &[u8],
-    asks: &[u64],
-    out: &mut [u8],
-) -> usize
-    requires { Answers keys.now b (same seed) (asked cells.now handles.now left.now right.now
-        lengths.now) × (length keys.now ≤ 2048) }
-    ensures { ShownWhereRoom (answered keys.now asks.now)
+// The head line and the lines of all asks.
+fn print_answers(indexes: &Indexes, asks: &[u64], out: &mut [u8]) -> usize
+    requires { length indexes.now.keys.now ≤ 2048 }
+    ensures { ShownWhereRoom (answered indexes.now.keys.now asks.now)
         out.old result out.new }
 {
-    let bytes = [0u8; 2048];
-    let Next::At(i) = write_head(out, 0, keys.len()) else {
+    let Some(i) = write_head(out, 0, indexes.keys.len()) else {
         return 0;
     };
-    answer_asks(
-        keys, &bytes, b, seed, cells, handles, left, right, lengths, asks, out, i,
-    )
-    .or(0)
+    indexes.answer_asks(asks, out, i).unwrap_or(0)
 }
 
 // The answers by the first seed that is taken, in stores as long as 2,048 keys can want; or the refusal of the table, or
-// the jam under the last seed.
+// the jam under the last seed. The arrays are named one by one, as `first_seed` takes them.
 fn answer_in(
     keys: &[u64],
     b: usize,
@@ -76,11 +57,24 @@ fn answer_in(
         out.old result out.new }
 {
     match first_seed(keys, b, cells, handles, left, right, work, lengths) {
-        Choice::Seed(seed) => print_answers(
-            keys, b, seed, cells, handles, left, right, lengths, asks, out,
-        ),
-        Choice::Refused(refusal) => refuse(out, refusal),
-        Choice::Jammed(size) => refuse_jam(out, size),
+        Ok(seed) => {
+            // No run is withdrawn here: a byte of zero is lent for each row.
+            let bytes = [0u8; 2048];
+            let indexes = Indexes {
+                keys,
+                bytes: &bytes,
+                b,
+                seed,
+                cells,
+                handles,
+                left,
+                right,
+                lengths,
+            };
+            print_answers(&indexes, asks, out)
+        }
+        Err(Unbuilt::Refused(refusal)) => refuse(out, refusal),
+        Err(Unbuilt::Jammed(jam)) => refuse_jam(out, jam.size),
     }
 }
 
@@ -116,12 +110,8 @@ fn answer_read(input: &[u8], keys: &mut [u64], asks: &mut [u64], out: &mut [u8])
     ensures { ShowsWhereRoom (RowcheckText input.now) out.old result out.new }
 {
     match read_input(input, keys, asks) {
-        Input::Taken {
-            bucket,
-            keys: n,
-            asks: m,
-        } => answer_table(&keys[..n], bucket, &asks[..m], out),
-        Input::Refused(_) => refuse(out, Refusal::Text),
+        Ok(input) => answer_table(&keys[..input.keys], input.bucket, &asks[..input.asks], out),
+        Err(refusal) => refuse(out, refusal),
     }
 }
 

@@ -4,7 +4,8 @@
 // The longest valid input has 53,792 bytes: the buffer holds one byte more, so that a longer input is seen to be one
 // (`WindowIsEnough` of rowanswer's specs). No text that is printed has more than 52,762 bytes (`LongestText`). What is
 // read and what is written no contract can say: `answer` is proved from slice to slice, and this program is run and
-// compared.
+// compared. The kit's `io` stays: it reads and prints what it can, where std's would answer with errors of their own, and
+// no document names an end of the program for them.
 #![tactic(auto)]
 
 fn main() {

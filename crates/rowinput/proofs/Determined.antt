@@ -1,4 +1,5 @@
 -- `read_input` is determined by its contract, and no input is longer than 53,792 bytes. Assumes nothing.
+use Rattle.std.proofs.Common.{Ok, Err}
 use Prim.Native.Nat.{ℕ, suc, ◌+◌, ◌*◌, ◌^◌, ◌<◌, ◌≤◌, min}
 use native.Mathlib.Omega.{arith}
 use mathlib.Core.List.{List, [], ◌++◌, append-nil}
@@ -12,7 +13,7 @@ use Rattle.lines.specs.declared.Kind.TheVariants.{Decimal, Hex}
 use Rattle.lines.proofs.Lining.{decimal_line_unique, line_size, hex_lines_size}
 use Rattle.rowinput.specs.Input.{list_text, row_text, ReadsInput}
 use Rattle.rowinput.specs.Determined.{OneReading, InputDetermined, LongestInput}
-use Rattle.rowinput.specs.declared.Input.TheVariants.{Taken, Refused}
+use Rattle.rowinput.specs.declared.Input.{Input}
 use Rattle.rowinput.proofs.Scanning.{key_list, ask_list, bucket_line, list_unique}
 
 pub one_reading : OneReading
@@ -32,23 +33,29 @@ same_held : {x₁ x₂ xs ys : List ℕ} (out : List ℕ) {n m : ℕ} → n ≡ 
     → x₁ ≡ xs ++ drop n out → x₂ ≡ ys ++ drop m out → x₁ ≡ x₂
 same_held out e f h g = cc
 
+-- an input is its bucket size and its two counts
+input_is : (r q : Input) → r.bucket ≡ q.bucket → r.keys ≡ q.keys → r.asks ≡ q.asks → r ≡ q
+input_is r q e f g =
+    ap (λ (b : ℕ). record r { bucket = b }) e ∙ ap (λ (n : ℕ). record r { bucket = q.bucket; keys = n }) f
+    ∙ ap (λ (m : ℕ). record q { asks = m }) g
+
 pub input_determined : InputDetermined
 unfolding ReadsInput
-input_determined s keys asks k₁ a₁ k₂ a₂ (Taken b n m) (Taken b' n' m') h g =
-    let o = one_reading (min (length keys) 2048) (min (length asks) 512) b b' h.ks g.ks h.qs g.qs
+input_determined s keys asks k₁ a₁ k₂ a₂ (Ok r) (Ok q) h g =
+    let o = one_reading (min (length keys) 2048) (min (length asks) 512) r.bucket q.bucket h.ks g.ks h.qs g.qs
     h.fine g.fine
     (sym h.text ∙ g.text) in
     let e = o.0 in
-    let n-same : n ≡ n' = h.key_count ∙ ap length o.1 ∙ sym g.key_count in
-    let m-same : m ≡ m' = h.ask_count ∙ ap length o.2 ∙ sym g.ask_count in
+    let n-same : r.keys ≡ q.keys = h.key_count ∙ ap length o.1 ∙ sym g.key_count in
+    let m-same : r.asks ≡ q.asks = h.ask_count ∙ ap length o.2 ∙ sym g.ask_count in
     let ks-same = same_held keys n-same o.1 h.keys_hold g.keys_hold in
-    (cc, (ks-same, same_held asks m-same o.2 h.asks_hold g.asks_hold))
-input_determined s keys asks k₁ a₁ k₂ a₂ (Taken b n m) (Refused f) h g =
-    absurd (g.1 b h.ks h.qs h.fine h.text)
-input_determined s keys asks k₁ a₁ k₂ a₂ (Refused f) (Taken b n m) h g =
-    absurd (h.1 b g.ks g.qs g.fine g.text)
-input_determined s keys asks k₁ a₁ k₂ a₂ (Refused f) (Refused f') h g =
-    (ap Refused (h.0 ∙ sym g.0), (h.2 ∙ sym g.2, h.3 ∙ sym g.3))
+    (ap Ok (input_is r q e n-same m-same), (ks-same, same_held asks m-same o.2 h.asks_hold g.asks_hold))
+input_determined s keys asks k₁ a₁ k₂ a₂ (Ok r) (Err f) h g =
+    absurd (g.1 r.bucket h.ks h.qs h.fine h.text)
+input_determined s keys asks k₁ a₁ k₂ a₂ (Err f) (Ok r) h g =
+    absurd (h.1 r.bucket g.ks g.qs g.fine g.text)
+input_determined s keys asks k₁ a₁ k₂ a₂ (Err f) (Err f') h g =
+    (ap Err (h.0 ∙ sym g.0), (h.2 ∙ sym g.2, h.3 ∙ sym g.3))
 
 -- a list of n numbers in at most d + 1 digits, each with a tag of l bytes
 list_size : (head tag xs : List ℕ) (d : ℕ) → length xs < 10 ^ suc d

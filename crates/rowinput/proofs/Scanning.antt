@@ -1,5 +1,6 @@
 -- What the readers of lines say of the input, taken together: of a count line with its lines, and of the whole.
 -- Assumes nothing.
+use Rattle.std.proofs.Common.{Some, None}
 use Prim.Native.Nat.{ℕ, ◌+◌, ◌-◌, min}
 use native.Mathlib.Nat.{le_refl}
 use native.Mathlib.Omega.{arith}
@@ -8,8 +9,7 @@ use mathlib.Core.Path.{◌≡◌, sym, ap, subst, ◌∙◌}
 use lib.ListN.{length, drop, length-drop}
 use Rattle.digits.specs.Texts.{bytes, From, Has, Reads}
 use Rattle.digits.specs.Numbers.{most_word}
-use Rattle.digits.specs.declared.Read.TheVariants.{Value, Bad}
-use Rattle.digits.specs.declared.Next.TheVariants.{At, Off}
+use Rattle.digits.specs.declared.Read.{Read}
 use Rattle.digits.proofs.Positions.{from_first, has_then, has_within, has_whole, hasnt_first, unique_rest, read_same}
 use Rattle.lines.specs.Lines.{line, lines, AllWithin, Loads}
 use Rattle.lines.specs.declared.Kind.TheVariants.{Decimal, Hex}
@@ -17,7 +17,6 @@ use Rattle.lines.proofs.Lining.{decimal_line_unique, line_unique}
 use Rattle.lines.proofs.Listing.{lines_unique}
 use Rattle.rowinput.specs.Input.{list_text, row_text, Fine, NoInput, InputHeld}
 use Rattle.rowinput.specs.Inner.{ListAt, NoList, LoadsList}
-use Rattle.rowinput.specs.declared.Listed.TheVariants.{Lines, None}
 
 -- ---- a count line and that many lines
 
@@ -35,22 +34,22 @@ list_unique head tag xs ys r q wx wy e =
     lines_unique most_word (line Hex tag) (line_unique Hex tag most_word (le_refl most_word)) xs ys r q p.0 wx wy p.1
 
 module _ (most : ℕ) (head tag s : List ℕ) (i : ℕ) (out after : List ℕ) where
-  pub list_headless : Reads most (line Decimal head) s i Bad → LoadsList most head tag s i out after None
+  pub list_headless : Reads most (line Decimal head) s i None → LoadsList most head tag s i out after None
   unfolding LoadsList Reads
   list_headless h xs l w =
       hasnt_first s i (line Decimal head (length xs)) (lines Hex tag xs) (h (length xs) (omega arith))
 
-  module _ (n at : ℕ) (h : Reads most (line Decimal head) s i (Value n at)) where
-    pub list_short : Loads most_word (line Hex tag) n s at out after Off → LoadsList most head tag s i out after None
+  module _ (r : Read) (h : Reads most (line Decimal head) s i (Some r)) where
+    pub list_short : Loads most_word (line Hex tag) r.value s r.next out after None → LoadsList most head tag s i out after None
     unfolding LoadsList Loads
     list_short g xs l w rest f =
-        let p = read_same most (line Decimal head) (decimal_line_unique head most) s i n at h (length xs)
+        let p = read_same most (line Decimal head) (decimal_line_unique head most) s i r h (length xs)
         (lines Hex tag xs ++ rest)
         (omega arith) (from_first s i (line Decimal head (length xs)) (lines Hex tag xs) rest f) in
         g.0 (let e = p.0 in omega arith) xs (sym p.0) w rest p.1
 
-    pub list_whole : (end : ℕ) → Loads most_word (line Hex tag) n s at out after (At end)
-        → LoadsList most head tag s i out after (Lines n end)
+    pub list_whole : (end : ℕ) → Loads most_word (line Hex tag) r.value s r.next out after (Some end)
+        → LoadsList most head tag s i out after (Some (record { count = r.value; end = end }))
     unfolding LoadsList Loads Reads
     list_whole end g =
         let xs = g.1.0 in
@@ -61,7 +60,7 @@ module _ (most : ℕ) (head tag s : List ℕ) (i : ℕ) (out after : List ℕ) w
           few = (let a = g.0 in let b = h.0 in omega arith);
           words = l.within;
           text = subst (λ (m : ℕ). Has s i (line Decimal head m ++ lines Hex tag xs) end) (sym l.count)
-              (has_then s i at (line Decimal head n) h.1 (lines Hex tag xs) end l.stand);
+              (has_then s i r.next (line Decimal head r.value) h.1 (lines Hex tag xs) end l.stand);
           held = g.1.2;
         }
 
@@ -91,23 +90,23 @@ module _ (K A : ℕ) (s : List ℕ) where
   unfolding row_text
   from_start b ks qs t = (omega arith, t ∙ rw (append-nil (ask_list qs)))
 
-  pub no_bucket : Reads 65535 (line Decimal (bytes "bucket=")) s 0 Bad → NoInput K A s
+  pub no_bucket : Reads 65535 (line Decimal (bytes "bucket=")) s 0 None → NoInput K A s
   unfolding Reads
   no_bucket h b ks qs f t = h b f.bucket (key_list ks ++ (ask_list qs ++ [])) (from_start b ks qs t)
 
-  module _ (bucket a : ℕ) (h : Reads 65535 (line Decimal (bytes "bucket=")) s 0 (Value bucket a)) where
+  module _ (bucket : Read) (h : Reads 65535 (line Decimal (bytes "bucket=")) s 0 (Some bucket)) where
     from_keys : (b : ℕ) (ks qs : List ℕ) → Fine K A b ks qs → s ≡ row_text b ks qs
-        → From s a (key_list ks ++ (ask_list qs ++ []))
+        → From s bucket.next (key_list ks ++ (ask_list qs ++ []))
     from_keys b ks qs f t =
         let rest = key_list ks ++ (ask_list qs ++ []) in
-        (read_same 65535 bucket_line (decimal_line_unique (bytes "bucket=") 65535) s 0 bucket a h b rest f.bucket
+        (read_same 65535 bucket_line (decimal_line_unique (bytes "bucket=") 65535) s 0 bucket h b rest f.bucket
         (from_start b ks qs t)).1
 
-    pub no_keys : NoList K (bytes "keys=") (bytes "key=") s a → NoInput K A s
+    pub no_keys : NoList K (bytes "keys=") (bytes "key=") s bucket.next → NoInput K A s
     no_keys l b ks qs f t = l ks f.key_count f.key_words (ask_list qs ++ []) (from_keys b ks qs f t)
 
     module _ (keys keys' : List ℕ) (n e : ℕ)
-        (l : ListAt 2048 (bytes "keys=") (bytes "key=") s a keys keys' n e) where
+        (l : ListAt 2048 (bytes "keys=") (bytes "key=") s bucket.next keys keys' n e) where
       from_asks : (b : ℕ) (ks qs : List ℕ) → Fine K A b ks qs → s ≡ row_text b ks qs
           → From s e (ask_list qs ++ [])
       from_asks b ks qs f t = list_same l ks (ask_list qs ++ []) f.key_words (from_keys b ks qs f t)
@@ -127,15 +126,15 @@ module _ (K A : ℕ) (s : List ℕ) where
 
         -- the input is taken, and the slices hold it
         pub taken : last ≡ length s → K ≡ min (length keys) 2048 → A ≡ min (length asks) 512
-            → InputHeld K A s bucket n m keys asks keys' asks'
+            → InputHeld K A s bucket.value n m keys asks keys' asks'
         unfolding Reads row_text
         taken end hk ha =
             let nk = l.count in
             let na = g.count in
             let fk = l.few in
             let fa = g.few in
-            let p2 = has_then s a e (key_list l.xs) l.text (ask_list g.xs) last g.text in
-            let p1 = has_then s 0 a (bucket_line bucket) h.1 (key_list l.xs ++ ask_list g.xs) last p2 in
+            let p2 = has_then s bucket.next e (key_list l.xs) l.text (ask_list g.xs) last g.text in
+            let p1 = has_then s 0 bucket.next (bucket_line bucket.value) h.1 (key_list l.xs ++ ask_list g.xs) last p2 in
             record {
               ks = l.xs;
               qs = g.xs;
@@ -146,7 +145,7 @@ module _ (K A : ℕ) (s : List ℕ) where
                 ask_count = omega arith;
                 ask_words = g.words;
               };
-              text = has_whole s (bucket_line bucket ++ (key_list l.xs ++ ask_list g.xs)) last p1 end;
+              text = has_whole s (bucket_line bucket.value ++ (key_list l.xs ++ ask_list g.xs)) last p1 end;
               key_count = sym nk;
               ask_count = sym na;
               keys_hold = l.held;

@@ -1,12 +1,12 @@
 -- Document 01, "`rowcheck`": the input is the text of a bucket size, keys and asks.
-use Rattle.std.specs.Prelude.{ℕ, ◌≤◌, min, List, ◌++◌, ◌≡◌, length, drop}
+use Rattle.std.specs.Prelude.{ℕ, ◌≤◌, min, List, ◌++◌, ◌≡◌, length, drop, Result, Ok, Err}
 use Rattle.digits.specs.Texts.{bytes}
 use Rattle.digits.specs.Numbers.{most_word}
 use Rattle.lines.specs.Lines.{line, lines, AllWithin}
 use Rattle.lines.specs.declared.Kind.TheVariants.{Decimal, Hex}
+use Rattle.refusals.specs.declared.Refusal.{Refusal}
 use Rattle.refusals.specs.declared.Refusal.TheVariants.{Text}
 use Rattle.rowinput.specs.declared.Input.{Input}
-use Rattle.rowinput.specs.declared.Input.TheVariants.{Taken, Refused}
 
 -- how many there are, and a line for each
 abbrev pub list_text : List ℕ → List ℕ → List ℕ → List ℕ
@@ -45,9 +45,9 @@ pub record InputHeld (most_keys mostAsks : ℕ) (s : List ℕ) (b n m : ℕ) (ke
 
 -- what `read_input` says of s and leaves in the slices: at most 2,048 keys and 512 asks are taken, and no more than
 -- there is room for; anything else is refusal 8, and leaves in the slices what it may
-unfoldable pub ReadsInput : List ℕ → List ℕ → List ℕ → List ℕ → List ℕ → Input → Type 0
-ReadsInput s keys asks keys' asks' (Taken b n m) =
-    InputHeld (min (length keys) 2048) (min (length asks) 512) s b n m keys asks keys' asks'
-ReadsInput s keys asks keys' asks' (Refused f) =
+unfoldable pub ReadsInput : List ℕ → List ℕ → List ℕ → List ℕ → List ℕ → Result Input Refusal → Type 0
+ReadsInput s keys asks keys' asks' (Ok r) =
+    InputHeld (min (length keys) 2048) (min (length asks) 512) s r.bucket r.keys r.asks keys asks keys' asks'
+ReadsInput s keys asks keys' asks' (Err f) =
     (f ≡ Text) × NoInput (min (length keys) 2048) (min (length asks) 512) s
     × (length keys' ≡ length keys) × (length asks' ≡ length asks)

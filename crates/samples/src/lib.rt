@@ -6,6 +6,7 @@
 #![tactic(auto)]
 
 pub mod answer;
+pub mod console;
 pub mod store;
 pub mod table;
 pub mod text;

@@ -1,7 +1,6 @@
 // Stores that no build left.
-ghost use Rattle.std.specs.Prelude.{◌≤◌};
+ghost use Rattle.std.specs.Prelude.{◌≡◌, ℕ, ◌%◌, ◌^◌};
 
-use std::num::wrapping_add_u64;
 use words::hash::mix;
 
 // Each entry i from `from` on and below `end` is to hold base + (mix(i + add) mod (most + 1)), of which a byte takes
@@ -18,20 +17,17 @@ pub struct Part {
 
 pub fn mixed(from: usize, end: usize, add: u64, most: u16) -> Part {
     Part {
-        from: from,
-        end: end,
-        base: 0,
-        add: add,
-        most: most,
-        rare: 0,
+        add,
+        most,
+        ..same(from, end, 0)
     }
 }
 
-pub fn same(from: usize, end: usize, v: u16) -> Part {
+pub fn same(from: usize, end: usize, base: u16) -> Part {
     Part {
-        from: from,
-        end: end,
-        base: v,
+        from,
+        end,
+        base,
         add: 0,
         most: 0,
         rare: 0,
@@ -41,12 +37,9 @@ pub fn same(from: usize, end: usize, v: u16) -> Part {
 // The row bytes `mixed`, of which about every fourth is not 0.
 pub fn mixed_bytes(n: usize) -> Part {
     Part {
-        from: 0,
-        end: n,
         base: 1,
-        add: 29,
-        most: 254,
         rare: 3,
+        ..mixed(0, n, 29, 254)
     }
 }
 
@@ -55,78 +48,55 @@ pub fn none() -> Part {
     same(0, 0, 0)
 }
 
-fn mixed_at(i: usize, add: u64, most: u16) -> u64 {
-    mix(wrapping_add_u64(i as u64, add)) % (most as u64 + 1)
+// An entry of a store: what it keeps of a number.
+pub trait Entry: Copy {
+    ghost kept: { ℕ → Self };
+
+    fn low(v: u64) -> Self
+        ensures { result ≡ kept v };
 }
 
-fn entry_at(part: Part, i: usize) -> u16 {
+impl Entry for u16 {
+    ghost kept = { λ v. v % 2 ^ 16 };
+
+    fn low(v: u64) -> u16 {
+        (v % 65536) as u16
+    }
+}
+
+impl Entry for u8 {
+    ghost kept = { λ v. v % 2 ^ 8 };
+
+    fn low(v: u64) -> u8 {
+        (v % 256) as u8
+    }
+}
+
+fn mixed_at(i: usize, add: u64, most: u16) -> u64 {
+    mix((i as u64).wrapping_add(add)) % (u64::from(most) + 1)
+}
+
+fn entry_at(part: Part, i: usize) -> u64 {
     if 0 < mixed_at(i, 23, part.rare) {
         return 0;
     }
-    let above = mixed_at(i, part.add, part.most);
-    (wrapping_add_u64(part.base as u64, above) % 65536) as u16
-}
-
-fn byte_at(part: Part, i: usize) -> u8 {
-    (entry_at(part, i) % 256) as u8
-}
-
-fn least(a: usize, b: usize) -> usize
-    ensures { (result ≤ a) × (result ≤ b) }
-{
-    if a < b {
-        return a;
-    }
-    b
+    u64::from(part.base).wrapping_add(mixed_at(i, part.add, part.most))
 }
 
 // Fills the part; where the store ends before it, to the store's end.
-pub fn fill(part: Part, store: &mut [u16]) {
-    let end = least(part.end, store.len());
-    let mut i = part.from;
-    while i < end {
-        store[i] = entry_at(part, i);
-        i += 1;
-    }
-}
-
-// The same of a store of bytes.
-pub fn fill_bytes(part: Part, store: &mut [u8]) {
-    let end = least(part.end, store.len());
-    let mut i = part.from;
-    while i < end {
-        store[i] = byte_at(part, i);
-        i += 1;
+pub fn fill<T: Entry>(part: Part, store: &mut [T]) {
+    for i in part.from..part.end.min(store.len()) {
+        store[i] = T::low(entry_at(part, i));
     }
 }
 
 // The first n entries, or all where there are fewer.
-pub fn first(n: usize, store: &[u16]) -> &[u16] {
-    if store.len() < n {
-        return store;
-    }
-    &store[..n]
+pub fn first<T>(n: usize, store: &[T]) -> &[T] {
+    &store[..n.min(store.len())]
 }
 
 // The same, to be written.
-pub fn first_mut(n: usize, store: &mut [u16]) -> &mut [u16] {
-    if store.len() < n {
-        return store;
-    }
-    &mut store[..n]
-}
-
-// The same two of a store of bytes.
-pub fn first_bytes(n: usize, store: &[u8]) -> &[u8] {
-    if store.len() < n {
-        return store;
-    }
-    &store[..n]
-}
-
-pub fn first_bytes_mut(n: usize, store: &mut [u8]) -> &mut [u8] {
-    if store.len() < n {
-        return store;
-    }
-    &mut store[..n]
+pub fn first_mut<T>(n: usize, store: &mut [T]) -> &mut [T] {
+    let end = n.min(store.len());
+    &mut store[..end]
 }

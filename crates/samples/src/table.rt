@@ -1,9 +1,10 @@
 // The tables: which key stands in which row.
-ghost use Rattle.std.specs.Prelude.{◌<◌};
+ghost use Rattle.std.specs.Prelude.{◌≡◌, ◌<◌, Some};
+ghost use Rattle.samples.specs.Printed.{sample_text};
+ghost use Rattle.samples.specs.Tables.{most_keys};
 
-use std::num::wrapping_add_u64;
+use std::fmt;
 use words::hash::mix;
-use words::product::wrapping_mul;
 
 #[derive(Clone, Copy)]
 pub enum Sample {
@@ -11,6 +12,38 @@ pub enum Sample {
     Spread,
     Clustered,
     Bits,
+}
+
+impl Sample {
+    pub const ALL: [Sample; 4] = [
+        Sample::Sequential,
+        Sample::Spread,
+        Sample::Clustered,
+        Sample::Bits,
+    ];
+
+    // The most keys that a program takes of the sample: those of `Bits` end.
+    pub fn most(self) -> u16
+        ensures { result ≡ most_keys self }
+    {
+        match self {
+            Sample::Bits => 65,
+            _ => u16::MAX,
+        }
+    }
+}
+
+impl fmt::Display for Sample {
+    ghost output = { λ s. Some (sample_text s) };
+
+    fn fmt<W: fmt::Write>(&self, f: &mut fmt::Formatter<W>) -> fmt::Result {
+        f.write_str(match self {
+            Sample::Sequential => "sequential",
+            Sample::Spread => "spread",
+            Sample::Clustered => "clustered",
+            Sample::Bits => "bits",
+        })
+    }
 }
 
 // How the keys stand in the rows: key i in row i, or the first n turned round.
@@ -24,19 +57,18 @@ pub enum Order {
 fn ruled(i: u64, start: u64, group: u64, leap: u64, step: u64, spread: u64) -> u64
     requires { (0 < group) × (0 < spread) }
 {
-    let low = wrapping_add_u64(wrapping_mul(i % group, step), mix(i) % spread);
-    wrapping_add_u64(start, wrapping_add_u64(wrapping_mul(i / group, leap), low))
+    let low = (i % group).wrapping_mul(step).wrapping_add(mix(i) % spread);
+    start
+        .wrapping_add((i / group).wrapping_mul(leap))
+        .wrapping_add(low)
 }
 
 // 0, then every key with a single 1 bit, from the lowest up.
 fn single_bit(i: u64) -> u64 {
-    if i < 1 {
-        return 0;
+    match i {
+        1..=64 => 1 << (i - 1),
+        _ => 0,
     }
-    if 64 < i {
-        return 0;
-    }
-    1 << (i - 1)
 }
 
 // Key i of the sample.
@@ -52,24 +84,14 @@ pub fn key_at(sample: Sample, i: u64) -> u64 {
 // The number of the key that stands in row i.
 fn row_key(order: Order, i: usize) -> usize {
     match order {
-        Order::Rising => i,
-        Order::Turned(n) => { if i < n { n - 1 - i } else { i } }
+        Order::Turned(n) if i < n => n - 1 - i,
+        _ => i,
     }
 }
 
 // Fills the whole slice with the sample's first keys.
 pub fn fill(sample: Sample, order: Order, keys: &mut [u64]) {
-    let mut i = 0;
-    while i < keys.len() {
+    for i in 0..keys.len() {
         keys[i] = key_at(sample, row_key(order, i) as u64);
-        i += 1;
     }
-}
-
-// The first n rows, or all where there are fewer.
-pub fn first(n: usize, keys: &[u64]) -> &[u64] {
-    if keys.len() < n {
-        return keys;
-    }
-    &keys[..n]
 }

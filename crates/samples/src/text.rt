@@ -1,74 +1,41 @@
-// The words that the programs print.
-use crate::table::Sample;
+// How the programs print what a build and an ask say.
+ghost use Rattle.std.specs.Prelude.{Some};
+ghost use Rattle.refusals.specs.Numbers.{said_by_build};
+ghost use Rattle.samples.specs.Printed.{built_text, told_text};
+
 use outcomes::Outcome;
-use refusals::{Refusal, Verdict};
+use refusals::{Refusal, Reported, Unbuilt, Verdict};
+use std::fmt;
 
-const STDOUT_FILENO: i32 = 1;
+// What a build says, with the size that it reports.
+#[derive(Clone, Copy)]
+pub struct Built(pub Verdict);
 
-pub fn word(w: &[u8]) {
-    io::write_all(STDOUT_FILENO, w);
-}
+impl fmt::Display for Built {
+    ghost output = { λ v. Some (built_text (said_by_build v.0)) };
 
-// A tag, and a number in decimal.
-pub fn number(tag: &[u8], v: u64) {
-    word(tag);
-    io::print_decimal(STDOUT_FILENO, v);
-}
-
-// A tag, and a number in 16 hexadecimal digits.
-pub fn hex(tag: &[u8], v: u64) {
-    word(tag);
-    io::print_hex(STDOUT_FILENO, v, 16);
-}
-
-fn refusal(n: u64, named: u64) {
-    number(b"refused=", n);
-    number(b".", named);
-}
-
-fn verdict(v: Verdict) {
-    if v.number() == 0 {
-        word(b"taken");
-        return;
-    }
-    refusal(v.number(), v.named());
-}
-
-// A tag, and what a build says, with the size that it reports.
-pub fn said(tag: &[u8], v: Verdict) {
-    word(tag);
-    verdict(v);
-    number(b".", v.jam_size() as u64);
-}
-
-// A tag, and the refusal of an ask.
-pub fn refused(tag: &[u8], r: Refusal) {
-    word(tag);
-    refusal(r.number(), r.named());
-}
-
-// A tag, and the outcome of an ask.
-pub fn outcome(tag: &[u8], o: Outcome) {
-    word(tag);
-    match o {
-        Outcome::Planned(row) => number(b"planned.", row as u64),
-        Outcome::Withdrawn(row) => number(b"withdrawn.", row as u64),
-        Outcome::Absent => word(b"absent"),
+    fn fmt<W: fmt::Write>(&self, f: &mut fmt::Formatter<W>) -> fmt::Result {
+        match self.0 {
+            Ok(()) => f.write_str("taken.0"),
+            Err(Unbuilt::Refused(r)) => write!(f, "refused={}.{}.0", r.number(), r.named()),
+            Err(Unbuilt::Jammed(jam)) => write!(f, "refused=5.{}.{}", self.0.named(), jam.size),
+        }
     }
 }
 
-fn name(sample: Sample) {
-    match sample {
-        Sample::Sequential => word(b"sequential"),
-        Sample::Spread => word(b"spread"),
-        Sample::Clustered => word(b"clustered"),
-        Sample::Bits => word(b"bits"),
-    }
-}
+// What an ask says of a key.
+#[derive(Clone, Copy)]
+pub struct Told(pub Result<Outcome, Refusal>);
 
-// How a line on a table begins.
-pub fn table(sample: Sample, n: usize) {
-    word(b"table=");
-    name(sample);
-    number(b" keys=", n as u64);
+impl fmt::Display for Told {
+    ghost output = { λ a. Some (told_text a.0) };
+
+    fn fmt<W: fmt::Write>(&self, f: &mut fmt::Formatter<W>) -> fmt::Result {
+        match self.0 {
+            Ok(Outcome::Planned(row)) => write!(f, "planned.{row}"),
+            Ok(Outcome::Withdrawn(row)) => write!(f, "withdrawn.{row}"),
+            Ok(Outcome::Absent) => f.write_str("absent"),
+            Err(r) => write!(f, "refused={}.{}", r.number(), r.named()),
+        }
+    }
 }

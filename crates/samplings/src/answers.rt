@@ -1,51 +1,30 @@
 // What is answered over the stores of a build.
-use crate::asks::print_built;
-use crate::builds::{Profile, first_taken};
+use crate::asks::{answered, untouched};
+use crate::builds::first_taken;
+use crate::profiles::Profile;
+use samples::store::first;
+use samples::table;
 use samples::table::{Order, Sample};
-use samples::{table, text};
+use std::io;
 
-fn block(profile: Profile, sample: Sample, n: usize, b: usize) {
+fn block<P: Profile>(rt: &impl Print, sample: Sample, n: usize, b: usize) -> io::Result<()> {
     let mut keys = [0u64; 2000];
     table::fill(sample, Order::Rising, &mut keys);
-    let rows = table::first(n, &keys);
-    text::table(sample, n);
-    text::number(b" bucket=", b as u64);
-    let seed = first_taken(profile, rows, b);
-    text::number(b" seed=", seed);
-    print_built(profile, rows, b, seed);
+    let rows = first(n, &keys);
+    let seed = first_taken::<P>(rows, b);
+    let told = answered::<P>(rows, b, b, seed, untouched());
+    println!(rt; "table={sample} keys={n} bucket={b} seed={seed}{told}")
 }
 
-fn buckets(profile: Profile, sample: Sample, n: usize) {
-    block(profile, sample, n, 2);
-    block(profile, sample, n, 3);
-    block(profile, sample, n, 16);
-    block(profile, sample, n, 255);
-    block(profile, sample, n, 256);
-}
-
-fn small(profile: Profile, sample: Sample) {
-    buckets(profile, sample, 0);
-    buckets(profile, sample, 1);
-    buckets(profile, sample, 2);
-    buckets(profile, sample, 3);
-    buckets(profile, sample, 5);
-    buckets(profile, sample, 17);
-    buckets(profile, sample, 64);
-    buckets(profile, sample, 65);
-}
-
-fn large(profile: Profile, sample: Sample) {
-    buckets(profile, sample, 256);
-    buckets(profile, sample, 257);
-    buckets(profile, sample, 2000);
-}
-
-pub fn print(profile: Profile) {
-    small(profile, Sample::Sequential);
-    large(profile, Sample::Sequential);
-    small(profile, Sample::Spread);
-    large(profile, Sample::Spread);
-    small(profile, Sample::Clustered);
-    large(profile, Sample::Clustered);
-    small(profile, Sample::Bits);
+pub fn print<P: Profile>(rt: &impl Print) -> io::Result<()> {
+    for sample in Sample::ALL {
+        for n in [0, 1, 2, 3, 5, 17, 64, 65, 256, 257, 2000] {
+            if n <= sample.most() {
+                for b in [2, 3, 16, 255, 256] {
+                    block::<P>(rt, sample, usize::from(n), b)?;
+                }
+            }
+        }
+    }
+    Ok(())
 }

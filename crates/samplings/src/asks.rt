@@ -1,26 +1,13 @@
 // The asks, and what is told of their answers. The stores are as long as the full build of 2,000 keys in buckets of two
 // rows asks for.
-use crate::builds::{Profile, build};
-use callask::CallAnswer;
+use crate::profiles::{Found, Loan, Profile};
 use outcomes::Outcome;
-use places::{NeighbourAnswer, Place};
+use places::Place;
 use refusals::Refusal;
 use samples::answer::digest;
-use samples::store::{Part, first_bytes, mixed_bytes, none};
-use samples::{store, text};
-use slimask::SlimAnswer;
-use std::num::{wrapping_add_u64, wrapping_sub_u64};
-use words::product::wrapping_mul;
-
-// What is looked at, in buckets of so many rows: the outcomes of the call index, the places of the neighbour index, and
-// the outcomes and the places of the slim profile.
-#[derive(Clone, Copy)]
-enum Index {
-    Call(usize),
-    Neighbour,
-    Outcomes(usize),
-    Places(usize),
-}
+use samples::store;
+use samples::store::{Part, first, mixed_bytes, none};
+use std::{fmt, io};
 
 // An answer as a number, and what is counted of it: one for a row that was found, or the probes; and one for a row that
 // is withdrawn.
@@ -31,247 +18,235 @@ struct Answer {
     withdrawn: u64,
 }
 
+// 2^32 + the refusal's number.
+impl From<Refusal> for Answer {
+    fn from(refusal: Refusal) -> Answer {
+        Answer {
+            number: refusal.number().wrapping_add(0x1_0000_0000),
+            count: 0,
+            withdrawn: 0,
+        }
+    }
+}
+
+// A planned row: the row + 1; a withdrawn one: 65536 more.
+impl From<Outcome> for Answer {
+    fn from(outcome: Outcome) -> Answer {
+        let (number, count, withdrawn) = match outcome {
+            Outcome::Planned(row) => ((row as u64).wrapping_add(1), 1, 0),
+            Outcome::Withdrawn(row) => ((row as u64).wrapping_add(65537), 1, 1),
+            Outcome::Absent => (0, 0, 0),
+        };
+        Answer {
+            number,
+            count,
+            withdrawn,
+        }
+    }
+}
+
+impl From<Found> for Answer {
+    fn from(found: Found) -> Answer {
+        found.outcome.into()
+    }
+}
+
+// before * 65536 + probes * 16 + whether the key stands in the table.
+impl From<Place> for Answer {
+    fn from(place: Place) -> Answer {
+        let count = place.probes as u64;
+        let number = (place.before as u64)
+            .wrapping_mul(65536)
+            .wrapping_add(count.wrapping_mul(16))
+            .wrapping_add(u64::from(place.stands));
+        Answer {
+            number,
+            count,
+            withdrawn: 0,
+        }
+    }
+}
+
+impl<T: Into<Answer>> From<Result<T, Refusal>> for Answer {
+    fn from(told: Result<T, Refusal>) -> Answer {
+        match told {
+            Ok(found) => found.into(),
+            Err(refusal) => refusal.into(),
+        }
+    }
+}
+
 // The sum and the largest of the counts, the withdrawn rows, and the digest of all answers.
 #[derive(Clone, Copy)]
-struct Tally {
+pub(crate) struct Tally {
     sum: u64,
     most: u64,
     withdrawn: u64,
     digest: u64,
 }
 
-// A refusal: 2^32 + its number.
-fn refused(r: Refusal) -> Answer {
-    Answer {
-        number: wrapping_add_u64(0x1_0000_0000, r.number()),
-        count: 0,
-        withdrawn: 0,
+impl Tally {
+    fn with(self, answer: Answer) -> Tally {
+        Tally {
+            sum: self.sum.wrapping_add(answer.count),
+            most: self.most.max(answer.count),
+            withdrawn: self.withdrawn.wrapping_add(answer.withdrawn),
+            digest: digest(self.digest, answer.number),
+        }
     }
 }
 
-// A planned row: the row + 1; a withdrawn one: 65536 more.
-fn found(o: Outcome) -> Answer {
-    match o {
-        Outcome::Planned(row) => Answer {
-            number: wrapping_add_u64(row as u64, 1),
-            count: 1,
-            withdrawn: 0,
-        },
-        Outcome::Withdrawn(row) => Answer {
-            number: wrapping_add_u64(row as u64, 65537),
-            count: 1,
-            withdrawn: 1,
-        },
-        Outcome::Absent => Answer {
-            number: 0,
-            count: 0,
-            withdrawn: 0,
-        },
-    }
-}
-
-fn by_call(a: CallAnswer) -> Answer {
-    match a {
-        CallAnswer::Told(o) => found(o),
-        CallAnswer::Refused(r) => refused(r),
-    }
-}
-
-pub fn flag(b: bool) -> u64 {
-    if b { 1 } else { 0 }
-}
-
-// before * 65536 + probes * 16 + whether the key stands in the table.
-fn placed(p: Place) -> Answer {
-    let probes = p.probes as u64;
-    let stands = wrapping_add_u64(wrapping_mul(probes, 16), flag(p.stands));
-    Answer {
-        number: wrapping_add_u64(wrapping_mul(p.before as u64, 65536), stands),
-        count: probes,
-        withdrawn: 0,
-    }
-}
-
-fn by_neighbour(a: NeighbourAnswer) -> Answer {
-    match a {
-        NeighbourAnswer::At(p) => placed(p),
-        NeighbourAnswer::Refused(r) => refused(r),
-    }
-}
-
-fn by_outcome(a: SlimAnswer) -> Answer {
-    match a {
-        SlimAnswer::Told(o, _) => found(o),
-        SlimAnswer::Refused(r) => refused(r),
-    }
-}
-
-fn by_place(a: SlimAnswer) -> Answer {
-    match a {
-        SlimAnswer::Told(_, p) => placed(p),
-        SlimAnswer::Refused(r) => refused(r),
-    }
-}
-
-fn larger(a: u64, b: u64) -> u64 {
-    if a < b { b } else { a }
-}
-
-fn tell(t: Tally, a: Answer) -> Tally {
-    Tally {
-        sum: wrapping_add_u64(t.sum, a.count),
-        most: larger(t.most, a.count),
-        withdrawn: wrapping_add_u64(t.withdrawn, a.withdrawn),
-        digest: digest(t.digest, a.number),
-    }
-}
-
-fn ask(
-    index: Index,
-    keys: &[u64],
-    bytes: &[u8],
-    seed: u64,
-    cells: &[u16],
-    handles: &[u16],
-    left: &[u16],
-    right: &[u16],
-    lengths: &[u8],
-    x: u64,
-) -> Answer {
-    match index {
-        Index::Call(b) => by_call(callask::call_ask(keys, bytes, b, seed, seed, cells, x)),
-        Index::Neighbour => by_neighbour(neighbour::neighbour_ask(
-            keys, seed, handles, left, right, lengths, x,
-        )),
-        Index::Outcomes(b) => by_outcome(slimask::slim_ask(
-            keys, bytes, b, seed, seed, cells, handles, left, right, lengths, x,
-        )),
-        Index::Places(b) => by_place(slimask::slim_ask(
-            keys, bytes, b, seed, seed, cells, handles, left, right, lengths, x,
-        )),
-    }
-}
-
-// One ask more.
-fn ask_on(
-    index: Index,
-    keys: &[u64],
-    bytes: &[u8],
-    seed: u64,
-    cells: &[u16],
-    handles: &[u16],
-    left: &[u16],
-    right: &[u16],
-    lengths: &[u8],
-    x: u64,
-    t: Tally,
-) -> Tally {
-    tell(
-        t,
-        ask(
-            index, keys, bytes, seed, cells, handles, left, right, lengths, x,
-        ),
-    )
-}
-
-// The key, the key - 1 and the key + 1.
-fn ask_around(
-    index: Index,
-    keys: &[u64],
-    bytes: &[u8],
-    seed: u64,
-    cells: &[u16],
-    handles: &[u16],
-    left: &[u16],
-    right: &[u16],
-    lengths: &[u8],
-    x: u64,
-    t: Tally,
-) -> Tally {
-    let below = wrapping_sub_u64(x, 1);
-    let above = wrapping_add_u64(x, 1);
-    let same = ask_on(
-        index, keys, bytes, seed, cells, handles, left, right, lengths, x, t,
-    );
-    let low = ask_on(
-        index, keys, bytes, seed, cells, handles, left, right, lengths, below, same,
-    );
-    ask_on(
-        index, keys, bytes, seed, cells, handles, left, right, lengths, above, low,
-    )
-}
-
-// Each key and its neighbours in row order, and at last 0 and 2^64 - 1.
-fn ask_all(
-    index: Index,
-    keys: &[u64],
-    bytes: &[u8],
-    seed: u64,
-    cells: &[u16],
-    handles: &[u16],
-    left: &[u16],
-    right: &[u16],
-    lengths: &[u8],
-) -> Tally {
-    let mut t = Tally {
+// Asks for each key, the key - 1 and the key + 1 in row order, and at last for 0 and 2^64 - 1.
+fn tallied<F: Fn(u64) -> Answer>(keys: &[u64], ask: F) -> Tally
+    requires { F.IsAlwaysCallable ask }
+{
+    let mut tally = Tally {
         sum: 0,
         most: 0,
         withdrawn: 0,
         digest: 1,
     };
-    let mut i = 0;
-    while i < keys.len() {
-        t = ask_around(
-            index, keys, bytes, seed, cells, handles, left, right, lengths, keys[i], t,
-        );
-        i += 1;
+    for &key in keys {
+        for x in [key, key.wrapping_sub(1), key.wrapping_add(1)] {
+            tally = tally.with(ask(x));
+        }
     }
-    let most = 0xFFFF_FFFF_FFFF_FFFF;
-    let low = ask_on(
-        index, keys, bytes, seed, cells, handles, left, right, lengths, 0, t,
-    );
-    ask_on(
-        index, keys, bytes, seed, cells, handles, left, right, lengths, most, low,
-    )
+    for x in [0, u64::MAX] {
+        tally = tally.with(ask(x));
+    }
+    tally
 }
 
-fn profile_of(index: Index) -> Profile {
-    match index {
-        Index::Call(_) => Profile::Full,
-        Index::Neighbour => Profile::Full,
-        Index::Outcomes(_) => Profile::Slim,
-        Index::Places(_) => Profile::Slim,
+// A part of each store that a build leaves, which is filled anew.
+#[derive(Clone, Copy)]
+pub(crate) struct Parts {
+    cells: Part,
+    handles: Part,
+    left: Part,
+    right: Part,
+    lengths: Part,
+}
+
+impl Parts {
+    pub(crate) fn cells(self, cells: Part) -> Parts {
+        Parts { cells, ..self }
+    }
+
+    pub(crate) fn handles(self, handles: Part) -> Parts {
+        Parts { handles, ..self }
+    }
+
+    pub(crate) fn left(self, left: Part) -> Parts {
+        Parts { left, ..self }
+    }
+
+    pub(crate) fn right(self, right: Part) -> Parts {
+        Parts { right, ..self }
+    }
+
+    pub(crate) fn lengths(self, lengths: Part) -> Parts {
+        Parts { lengths, ..self }
     }
 }
 
-// The asks over the stores that the build in buckets of b rows leaves with the same seed for all maps, a part of each
-// filled anew, and with row bytes of which a part is filled and the others are 0.
-fn ask_built(
-    index: Index,
+// The stores as the build leaves them.
+pub(crate) fn untouched() -> Parts {
+    let part = none();
+    Parts {
+        cells: part,
+        handles: part,
+        left: part,
+        right: part,
+        lengths: part,
+    }
+}
+
+// The end of a line: the outcomes with all rows planned, whose digest has the tag, and with some withdrawn.
+#[derive(Clone, Copy)]
+struct Outcomes {
+    tag: &'static str,
+    planned: Tally,
+    marked: Tally,
+}
+
+impl fmt::Display for Outcomes {
+    fn fmt<W: fmt::Write>(&self, f: &mut fmt::Formatter<W>) -> fmt::Result {
+        let Outcomes {
+            tag,
+            planned,
+            marked,
+        } = self;
+        write!(
+            f,
+            " found={} {tag}={:016x} withdrawn={} marked={:016x}",
+            planned.sum, planned.digest, marked.withdrawn, marked.digest
+        )
+    }
+}
+
+// The end of a line: the places, with the probes of all asks and the most of one.
+#[derive(Clone, Copy)]
+pub(crate) struct Places {
+    pub(crate) tag: &'static str,
+    pub(crate) places: Tally,
+}
+
+impl fmt::Display for Places {
+    fn fmt<W: fmt::Write>(&self, f: &mut fmt::Formatter<W>) -> fmt::Result {
+        let Places { tag, places } = self;
+        write!(
+            f,
+            " probes={} most={} {tag}={:016x}",
+            places.sum, places.most, places.digest
+        )
+    }
+}
+
+// The outcomes, and the places.
+#[derive(Clone, Copy)]
+pub(crate) struct Answers {
+    outcomes: Outcomes,
+    pub(crate) places: Tally,
+}
+
+impl fmt::Display for Answers {
+    fn fmt<W: fmt::Write>(&self, f: &mut fmt::Formatter<W>) -> fmt::Result {
+        let Answers { outcomes, places } = *self;
+        let tag = "neighbour";
+        write!(f, "{outcomes}{}", Places { tag, places })
+    }
+}
+
+fn tallied_outcomes<P: Profile>(loan: &Loan) -> Tally {
+    tallied(loan.keys, |x| P::ask(loan, x).into())
+}
+
+fn tallied_places<P: Profile>(loan: &Loan) -> Tally {
+    tallied(loan.keys, |x| P::place(loan, x).into())
+}
+
+// The asks in buckets of b rows over the stores that a build in buckets of `built` rows leaves with the same seed for
+// all maps, a part of each filled anew.
+pub(crate) fn answered<P: Profile>(
     keys: &[u64],
     b: usize,
+    built: usize,
     seed: u64,
-    of_cells: Part,
-    of_handles: Part,
-    of_left: Part,
-    of_right: Part,
-    of_lengths: Part,
-    of_bytes: Part,
-) -> Tally {
+    parts: Parts,
+) -> Answers {
     let mut cells = [0u16; 3798];
     let mut handles = [0u16; 2526];
     let mut left = [0u16; 2000];
     let mut right = [0u16; 2000];
     let mut work = [0u16; 9058];
     let mut lengths = [0u8; 2000];
+    let zeros = [0u8; 2000];
     let mut bytes = [0u8; 2000];
-    build(
-        profile_of(index),
+    let seeds = [seed; 3];
+    let _ = P::build(
         keys,
-        b,
-        seed,
-        seed,
-        seed,
+        built,
+        seeds,
         &mut cells,
         &mut handles,
         &mut left,
@@ -279,168 +254,60 @@ fn ask_built(
         &mut work,
         &mut lengths,
     );
-    store::fill(of_cells, &mut cells);
-    store::fill(of_handles, &mut handles);
-    store::fill(of_left, &mut left);
-    store::fill(of_right, &mut right);
-    store::fill_bytes(of_lengths, &mut lengths);
-    store::fill_bytes(of_bytes, &mut bytes);
-    let lent = first_bytes(keys.len(), &bytes);
-    ask_all(
-        index, keys, lent, seed, &cells, &handles, &left, &right, &lengths,
-    )
-}
-
-// How many rows were found, and the digest.
-fn print_found(tag: &[u8], t: Tally) {
-    text::number(b" found=", t.sum);
-    text::hex(tag, t.digest);
-}
-
-// How many rows were withdrawn, and the digest.
-fn print_withdrawn(t: Tally) {
-    text::number(b" withdrawn=", t.withdrawn);
-    text::hex(b" marked=", t.digest);
-}
-
-// All probes, the most of one ask, and the digest.
-fn print_probes(tag: &[u8], t: Tally) {
-    text::number(b" probes=", t.sum);
-    text::number(b" most=", t.most);
-    text::hex(tag, t.digest);
-    text::word(b"\n");
-}
-
-fn outcomes_of(profile: Profile, b: usize) -> Index {
-    match profile {
-        Profile::Full => Index::Call(b),
-        Profile::Slim => Index::Outcomes(b),
-    }
-}
-
-fn places_of(profile: Profile, b: usize) -> Index {
-    match profile {
-        Profile::Full => Index::Neighbour,
-        Profile::Slim => Index::Places(b),
-    }
-}
-
-// The end of a line: the asks in buckets of b rows over the stores that a build in buckets of `built` rows leaves, a
-// part of each filled anew: the outcomes with all rows planned and with some withdrawn, and the places.
-pub fn print_answers(
-    profile: Profile,
-    keys: &[u64],
-    b: usize,
-    built: usize,
-    seed: u64,
-    of_cells: Part,
-    of_handles: Part,
-    of_left: Part,
-    of_right: Part,
-    of_lengths: Part,
-) {
-    let outcomes = outcomes_of(profile, b);
-    let places = places_of(profile, b);
-    print_found(
-        b" call=",
-        ask_built(
-            outcomes,
-            keys,
-            built,
-            seed,
-            of_cells,
-            of_handles,
-            of_left,
-            of_right,
-            of_lengths,
-            none(),
-        ),
-    );
-    print_withdrawn(ask_built(
-        outcomes,
+    store::fill(parts.cells, &mut cells);
+    store::fill(parts.handles, &mut handles);
+    store::fill(parts.left, &mut left);
+    store::fill(parts.right, &mut right);
+    store::fill(parts.lengths, &mut lengths);
+    store::fill(mixed_bytes(2000), &mut bytes);
+    let planned = Loan {
         keys,
-        built,
-        seed,
-        of_cells,
-        of_handles,
-        of_left,
-        of_right,
-        of_lengths,
-        mixed_bytes(2000),
-    ));
-    print_probes(
-        b" neighbour=",
-        ask_built(
-            places,
-            keys,
-            built,
-            seed,
-            of_cells,
-            of_handles,
-            of_left,
-            of_right,
-            of_lengths,
-            none(),
-        ),
-    );
+        bytes: first(keys.len(), &zeros),
+        b,
+        seeds,
+        cells: &cells,
+        handles: &handles,
+        left: &left,
+        right: &right,
+        lengths: &lengths,
+    };
+    let marked = Loan {
+        bytes: first(keys.len(), &bytes),
+        ..planned
+    };
+    Answers {
+        outcomes: Outcomes {
+            tag: "call",
+            planned: tallied_outcomes::<P>(&planned),
+            marked: tallied_outcomes::<P>(&marked),
+        },
+        places: tallied_places::<P>(&planned),
+    }
 }
 
-// The same over the stores as the build leaves them.
-pub fn print_built(profile: Profile, keys: &[u64], b: usize, seed: u64) {
-    let part = none();
-    print_answers(profile, keys, b, b, seed, part, part, part, part, part);
-}
-
-// The asks of the call index over cells that no build left, a part of them filled and the others 0, and over row bytes
-// of the same kind. It reads no other store: its cells stand in their place.
-fn ask_unbuilt(keys: &[u64], b: usize, of_cells: Part, of_rows: Part) -> Tally {
+// The asks of the call index over cells that no build left, a part of them filled and the others 0.
+fn call_answers(keys: &[u64], b: usize, part: Part) -> Outcomes {
     let mut cells = [0u16; 3798];
-    let mut rows = [0u8; 2000];
-    store::fill(of_cells, &mut cells);
-    store::fill_bytes(of_rows, &mut rows);
-    let lent = first_bytes(keys.len(), &rows);
-    ask_all(
-        Index::Call(b),
-        keys,
-        lent,
-        0,
-        &cells,
-        &cells,
-        &cells,
-        &cells,
-        lent,
-    )
+    let zeros = [0u8; 2000];
+    let mut bytes = [0u8; 2000];
+    store::fill(part, &mut cells);
+    store::fill(mixed_bytes(2000), &mut bytes);
+    let all = first(keys.len(), &zeros);
+    let some = first(keys.len(), &bytes);
+    Outcomes {
+        tag: "digest",
+        planned: tallied(
+            keys,
+            |x| callask::call_ask(keys, all, b, 0, 0, &cells, x).into(),
+        ),
+        marked: tallied(
+            keys,
+            |x| callask::call_ask(keys, some, b, 0, 0, &cells, x).into(),
+        ),
+    }
 }
 
 // The end of a line: those asks with all rows planned and with some withdrawn.
-pub fn print_call(keys: &[u64], b: usize, part: Part) {
-    print_found(b" digest=", ask_unbuilt(keys, b, part, none()));
-    print_withdrawn(ask_unbuilt(keys, b, part, mixed_bytes(2000)));
-    text::word(b"\n");
-}
-
-// The end of a line: the places of the neighbour index over the stores that the full build leaves, a part of each
-// filled anew.
-pub fn print_neighbour(
-    keys: &[u64],
-    b: usize,
-    seed: u64,
-    of_handles: Part,
-    of_left: Part,
-    of_right: Part,
-    of_lengths: Part,
-) {
-    let probed = ask_built(
-        Index::Neighbour,
-        keys,
-        b,
-        seed,
-        none(),
-        of_handles,
-        of_left,
-        of_right,
-        of_lengths,
-        none(),
-    );
-    print_probes(b" digest=", probed);
+pub fn print_call(rt: &impl Print, keys: &[u64], b: usize, part: Part) -> io::Result<()> {
+    println!(rt; "{}", call_answers(keys, b, part))
 }

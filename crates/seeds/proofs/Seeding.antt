@@ -1,15 +1,17 @@
 -- What the build of a seed says and leaves, and which refusals a table can get from it: the stores are long enough, so
 -- neither 1 nor 4. Assumes nothing.
+use Rattle.std.proofs.Common.{Result, Ok, Err}
 use mathlib.Core.Path.{◌≡◌, refl, sym, ◌∙◌}
 use mathlib.Core.List.{List}
 use mathlib.Core.Logic.{◌⊎◌, inl, inr}
-use Prim.Native.Nat.{ℕ, ◌-◌, ◌≤◌, ◌<◌}
+use Prim.Native.Nat.{ℕ, ◌+◌, ◌-◌, ◌≤◌, ◌<◌}
+use borrow.Author.Count.{below_more}
 use native.Mathlib.Decide.{dec_le}
 use native.Mathlib.Omega.{arith}
 use lib.ListN.{length}
-use Rattle.refusals.specs.Numbers.{taken, refused, jammed, said_by_build}
-use Rattle.refusals.specs.declared.Verdict.{Verdict}
-use Rattle.refusals.specs.declared.Verdict.TheVariants.{Taken, Refused, Jammed}
+use Rattle.refusals.specs.Numbers.{map_number, taken, refused, jammed, said_by_build}
+use Rattle.refusals.specs.declared.Unbuilt.{Unbuilt}
+use Rattle.refusals.specs.declared.Unbuilt.TheVariants.{Refused, Jammed}
 use Rattle.refusals.proofs.Naming.{not_taken, jam_not_taken, jam_not_refused}
 use Rattle.cells.specs.Cells.{cell_count}
 use Rattle.tables.specs.Tables.{Table, first_fall}
@@ -109,10 +111,10 @@ module _ (keys : List ℕ) (words : Words keys) (few : length keys ≤ 2048) (b 
       (λ two most T t. record { two = two; most = most; table = T; first = rw (one, all) F })
   jams map size S' (accepted j N e F) = jam_not_taken map size refl e
 
-  pub tried : (said : Verdict) (c h l r w n : List ℕ)
+  pub tried : (said : Result (Unit {0}) Unbuilt) (c h l r w n : List ℕ)
       → FullBuilt keys b (same s) S (said_by_build said) (lent c h l r w n) → SeedTried keys b s (asked c h l r n) said
   unfolding SeedTried
-  tried Taken c h l r w n B =
+  tried (Ok done) c h l r w n B =
       let A = full_accepted B in
       let P = A.passed in
       let both = build_answers keys b (same s) S (lent c h l r w n) words B in
@@ -123,5 +125,10 @@ module _ (keys : List ℕ) (words : Words keys) (few : length keys ≤ 2048) (b 
         taken = A.jamless;
         answers = record { calls = both.calls; counts = both.counts };
       }
-  tried (Refused f) c h l r w n B = refuses _ _ _ B
-  tried (Jammed map size) c h l r w n B = jams map size _ B
+  tried (Err (Refused f)) c h l r w n B = refuses _ _ _ B
+  tried (Err (Jammed j)) c h l r w n B = jams (map_number j.map) j.size _ B
+
+-- one more seed that jams
+pub next_jam : (keys : List ℕ) (b seed map size : ℕ) → ((s : ℕ) → s < seed → SeedJams keys b s) → Jams keys b seed map size
+    → (s : ℕ) → s < seed + 1 → SeedJams keys b s
+next_jam keys b seed map size below J = below_more _ seed below (map, (size, J.first))

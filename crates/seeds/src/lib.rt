@@ -8,18 +8,10 @@ ghost use Rattle.std.specs.Prelude.{◌≤◌, length};
 ghost use Rattle.stores.specs.Stores.{asked};
 ghost use Rattle.seeds.specs.Inner.{SeedTried, Chose};
 
-use index::{Refusal, Verdict};
+use index::{Unbuilt, Verdict};
 
-// A seed; or the refusal of the table, whatever the seed; or, where all seeds jam, the size of the largest jam of the
-// first jammed map under the last one.
-#[derive(Clone, Copy)]
-pub enum Choice {
-    Seed(u64),
-    Refused(Refusal),
-    Jammed(usize),
-}
-
-// What the build says of the seed, the same for all maps.
+// What the build says of the seed, the same for all maps. The arrays are named one by one, as the slices of a build are:
+// it lends several of them at once. That there are 2,048 keys at most is one comparison, and no type says it more plainly.
 fn try_seed(
     keys: &[u64],
     b: usize,
@@ -40,8 +32,9 @@ fn try_seed(
     )
 }
 
-// Tries seeds 0, 1, .. 255. Only a jam goes on to the next: any other refusal is the table's.
-#[tactic(auto, using(crate::proofs::Seeding::last_jam), unfolding(crate::specs::Inner::SeedTried, crate::specs::Inner::Chose))]
+// Tries seeds 0, 1, .. 255. Only a jam goes on to the next: any other refusal is the table's, whatever the seed. Where all
+// seeds jam it answers the jam under the last one.
+#[tactic(auto, unfolding(crate::specs::Inner::SeedTried, crate::specs::Inner::Chose))]
 pub fn first_seed(
     keys: &[u64],
     b: usize,
@@ -51,26 +44,18 @@ pub fn first_seed(
     right: &mut [u16; 2048],
     work: &mut [u16; 9274],
     lengths: &mut [u8; 2048],
-) -> Choice
+) -> Result<u64, Unbuilt>
     requires { length keys.now ≤ 2048 }
     ensures { Chose keys.now b
         (asked cells.new handles.new left.new right.new lengths.new) result }
 {
-    let mut seed: u64 = 0;
-    loop {
+    for seed in 0..255 {
         match try_seed(keys, b, seed, cells, handles, left, right, work, lengths) {
-            Verdict::Taken => {
-                return Choice::Seed(seed);
-            }
-            Verdict::Refused(refusal) => {
-                return Choice::Refused(refusal);
-            }
-            Verdict::Jammed { map: _, size } => {
-                if seed == 255 {
-                    return Choice::Jammed(size);
-                }
-            }
+            Ok(()) => return Ok(seed),
+            Err(Unbuilt::Jammed(_)) => {}
+            Err(refused) => return Err(refused),
         }
-        seed += 1;
     }
+    try_seed(keys, b, 255, cells, handles, left, right, work, lengths)?;
+    Ok(255)
 }

@@ -1,9 +1,11 @@
 -- What the two maps of the slim profile leave, built one after the other. Assumes nothing.
 use mathlib.Core.Path.{◌≡◌}
 use mathlib.Core.List.{List}
-use Prim.Native.Nat.{ℕ, ◌≤◌, ◌<◌}
+use Prim.Native.Nat.{ℕ, ◌≤◌}
 use native.Mathlib.Omega.{arith}
 use lib.ListN.{length}
+use Rattle.std.specs.Prelude.{Result, Ok, Err}
+use Rattle.refusals.specs.declared.StaticMap.TheVariants as map
 use Rattle.cells.specs.Memory.{cleared}
 use Rattle.tables.specs.Delimiters.{buckets, delimiters}
 use Rattle.tables.specs.Lengths.{call_work}
@@ -16,7 +18,6 @@ use Rattle.neighbour.specs.Inner.{Storable, StoresBuilt}
 use Rattle.neighbour.proofs.Storing.{storable, swept_after, stores_filled}
 use Rattle.neighbour.proofs.Storing.{handles_beyond, left_beyond, right_beyond, lengths_beyond}
 use Rattle.verdicts.specs.Inner.{Mapped}
-use Rattle.verdicts.specs.declared.Maps.TheVariants as maps
 use Rattle.verdicts.proofs.Clearing.{cleared_past, cells_written}
 use Rattle.verdicts.proofs.Ending.{passed}
 use Rattle.slimstores.specs.Sizes.{slim_build_sizes}
@@ -49,47 +50,56 @@ module _ {keys : List ℕ} {b : ℕ} {S : Stores} (R : SlimReady keys b S) where
       (record { some = omega (arith, P.two); most = P.most; rows = P.few }) few_buckets P.fits.handles
       P.fits.left P.fits.right (omega (arith, P.fits.work)) P.fits.lengths
 
-  module _ {seed₁ : ℕ} {cells₁ work₁ : List ℕ} {size₁ : ℕ}
-      (B₁ : Built seed₁ keys (offset_values b keys) S.cells S.work size₁ cells₁ work₁) where
-    pub first_jams : (seed₃ : ℕ) → 0 < size₁
-        → MapsBuilt keys b seed₁ seed₃ S (maps.Jammed 1 size₁)
-        (lent cells₁ S.handles S.left S.right work₁ S.lengths)
+module _ (keys : List ℕ) (b s u : ℕ) (cells handles left right work lengths : List ℕ)
+    (R : SlimReady keys b (lent cells handles left right work lengths)) where
+  abbrev S : Stores
+  S = lent cells handles left right work lengths
+
+  counted : length (delimiters b keys) ≡ buckets (length keys) b
+  counted = length_delimiters b keys
+
+  pub first_jams : (size : ℕ) (cells₁ work₁ : List ℕ)
+      → Built s keys (offset_values b keys) cells work (Err size) cells₁ work₁
+      → MapsBuilt keys b s u S (Err (record { map = map.Keys; size = size })) (lent cells₁ handles left right work₁ lengths)
+  unfolding Mapped
+  first_jams size cells₁ work₁ B₁ = (
+    in₁ B₁.refused.0,
+    cells_written (slim_build_sizes (length keys) b) S (cells_beyond s keys B₁) B₁.swept,
+  )
+
+  module _ (cells₁ work₁ : List ℕ) (B₁ : Built s keys (offset_values b keys) cells work (Ok tt) cells₁ work₁)
+      (handles₃ left₃ right₃ work₃ lengths₃ : List ℕ) where
+    swept : {answer : Result (Unit {0}) ℕ}
+        → StoresBuilt (delimiters b keys) u handles left right work₁ lengths answer handles₃ left₃ right₃ work₃ lengths₃
+        → work₃ ≡ cleared (call_work (length keys)) work
+    swept B₃ = swept_after B₃ (length keys) work (omega (arith, counted, few_buckets R)) B₁.swept
+
+    pub third_jams : (size : ℕ)
+        → StoresBuilt (delimiters b keys) u handles left right work₁ lengths (Err size) handles₃ left₃ right₃ work₃ lengths₃
+        → MapsBuilt keys b s u S (Err (record { map = map.Handles; size = size }))
+        (lent cells₁ handles₃ left₃ right₃ work₃ lengths₃)
     unfolding Mapped
-    first_jams seed₃ h = (
-      in₁ (B₁.refused h).0,
-      cells_written (slim_build_sizes n b) S (cells_beyond seed₁ keys B₁) B₁.swept,
+    third_jams size B₃ = (
+      in₃ B₁.accepted.0 B₃.map₃.refused.0,
+      record {
+        cells = cells_beyond s keys B₁;
+        handles = handles_beyond B₃ counted;
+        left = left_beyond B₃ counted;
+        right = right_beyond B₃ counted;
+        work = cleared_past (call_work (length keys)) work (swept B₃);
+        lengths = lengths_beyond B₃ counted;
+      },
     )
 
-    module _ {seed₃ : ℕ} {handles₃ left₃ right₃ work₃ lengths₃ : List ℕ} {size₃ : ℕ} (h₁ : size₁ ≤ 0)
-        (B₃ : StoresBuilt (delimiters b keys) seed₃ S.handles S.left S.right work₁ S.lengths size₃
-        handles₃ left₃ right₃ work₃ lengths₃) where
-      counted : length (delimiters b keys) ≡ k
-      counted = length_delimiters b keys
+    pub both_built
+        : StoresBuilt (delimiters b keys) u handles left right work₁ lengths (Ok tt) handles₃ left₃ right₃ work₃ lengths₃
+        → MapsBuilt keys b s u S (Ok tt) (lent cells₁ handles₃ left₃ right₃ work₃ lengths₃)
+    unfolding Mapped
+    both_built B₃ =
+        let A₁ = B₁.accepted in
+        let S' = lent cells₁ handles₃ left₃ right₃ work₃ lengths₃ in (
+          record { one = A₁.0; three = B₃.map₃.accepted.0 },
+          record { offsets = A₁.1; neighbour = stores_filled S' B₃; work = swept B₃ },
+        )
 
-      swept : work₃ ≡ cleared (call_work n) S.work
-      swept = swept_after B₃ n S.work (omega (arith, counted, few_buckets)) B₁.swept
-
-      pub third_jams : 0 < size₃
-          → MapsBuilt keys b seed₁ seed₃ S (maps.Jammed 3 size₃) (lent cells₁ handles₃ left₃ right₃ work₃ lengths₃)
-      unfolding Mapped
-      third_jams h = (
-        in₃ (B₁.accepted (omega arith)).0 (B₃.map₃.refused h).0,
-        record {
-          cells = cells_beyond seed₁ keys B₁;
-          handles = handles_beyond B₃ counted;
-          left = left_beyond B₃ counted;
-          right = right_beyond B₃ counted;
-          work = cleared_past (call_work n) S.work swept;
-          lengths = lengths_beyond B₃ counted;
-        },
-      )
-
-      pub both_built : size₃ ≤ 0
-          → MapsBuilt keys b seed₁ seed₃ S maps.Built (lent cells₁ handles₃ left₃ right₃ work₃ lengths₃)
-      unfolding Mapped
-      both_built h =
-          let A₁ = B₁.accepted (omega arith) in
-          let S' = lent cells₁ handles₃ left₃ right₃ work₃ lengths₃ in (
-            record { one = A₁.0; three = (B₃.map₃.accepted (omega arith)).0 },
-            record { offsets = A₁.1; neighbour = stores_filled S' B₃ (omega arith); work = swept },
-          )
+pub ruleset built = (first_jams, third_jams, both_built)

@@ -1,18 +1,16 @@
 -- Request One, with Six and Eight: asking x of the slim profile.
-use Rattle.std.specs.Prelude.{Bool, cond, List, ℕ, ◌+◌, ◌*◌, ltb, length}
+use Rattle.std.specs.Prelude.{Bool, cond, Option, None, Result, Ok, Err, List, ℕ, ◌+◌, ◌*◌, ltb, length}
 use Rattle.refusals.specs.Numbers.{number, names}
+use Rattle.refusals.specs.declared.Refusal.{Refusal}
 use Rattle.cells.specs.Cells.{map_value}
 use Rattle.tables.specs.Delimiters.{buckets, delimiters}
 use Rattle.stores.specs.Judged.{ask_refused}
 use Rattle.stores.specs.Stores.{Stores, sizes_beside}
 use Rattle.outcomes.specs.Outcomes.{Told, row_says, told_by, marked}
-use Rattle.outcomes.specs.declared.Located.{Located}
-use Rattle.outcomes.specs.declared.Located.TheVariants.{Nowhere}
 use Rattle.places.specs.Said.{NeighbourSaid, walk_says}
 use Rattle.places.specs.Said as walk
 use Rattle.slimstores.specs.Sizes.{slim_ask_sizes}
 use Rattle.slimask.specs.declared.SlimAnswer.{SlimAnswer}
-use Rattle.slimask.specs.declared.SlimAnswer.TheVariants as answer
 
 -- what an ask says, in the documents' numbers: an outcome, and of the walk over the delimiters the number before, the
 -- probe count and whether x is a delimiter; or a refusal and what it names
@@ -20,16 +18,16 @@ pub data SlimSaid : Type 0 where
   told : Told → (before probes : ℕ) (stands : Bool) → SlimSaid
   refused : (number names : ℕ) → SlimSaid
 
-abbrev pub said_by_slim : SlimAnswer → SlimSaid
-said_by_slim (answer.Told o p) = told (told_by o) p.before p.probes p.stands
-said_by_slim (answer.Refused r) = refused (number r) (names r)
+abbrev pub said_by_slim : Result SlimAnswer Refusal → SlimSaid
+said_by_slim (Ok a) = told (told_by a.outcome) a.place.before a.place.probes a.place.stands
+said_by_slim (Err r) = refused (number r) (names r)
 
 -- the bucket of x is the number of delimiters smaller than x; if that is k, x is nowhere. The whole value of the map is
 -- the offset: row = bucket × B + offset, and the table's key in that row decides
-unfoldable pub bucket_says : List ℕ → ℕ → ℕ → List ℕ → ℕ → ℕ → Located
+unfoldable pub bucket_says : List ℕ → ℕ → ℕ → List ℕ → ℕ → ℕ → Option ℕ
 bucket_says keys b seed₁ offsets x bucket =
     cond (ltb bucket (buckets (length keys) b))
-    (row_says keys (bucket * b + map_value offsets (length keys) seed₁ x) x) Nowhere
+    (row_says keys (bucket * b + map_value offsets (length keys) seed₁ x) x) None
 
 -- what the walk over the delimiters counts is the bucket; its answer is told beside the outcome, and its refusal as it
 -- stands

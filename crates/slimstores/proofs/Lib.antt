@@ -1,3 +1,3 @@
 -- The laws of the definitions in specs/.
---   Lending: the lengths, each for itself, and the answers that tell them
+--   Lending: the named lengths, and the answers that tell them
 pub mod Lending

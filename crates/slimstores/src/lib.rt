@@ -10,7 +10,8 @@ ghost use Rattle.stores.specs.Sizes.{said_by_lend};
 ghost use Rattle.slimstores.specs.Sizes.{slim_sizes, slim_build_sizes, slim_ask_sizes, slim_lengths};
 
 use cells::cell_count;
-use stores::{Judged, Lend, Sizes};
+use refusals::Refusal;
+use stores::Sizes;
 use tables::delimiter::bucket_count;
 use tables::lengths::{call_work, handle_cells};
 
@@ -49,11 +50,10 @@ pub fn ask_sizes(n: usize, b: usize) -> Sizes
 
 // The named length of every store that the slim build or its ask is lent, for n keys in buckets of b rows, or refusal 1
 // or 2.
-pub fn slim_lengths(n: usize, b: usize) -> Lend
+#[tactic(auto, using(crate::proofs::Lending::as_named))]
+pub fn slim_lengths(n: usize, b: usize) -> Result<Sizes, Refusal>
     ensures { said_by_lend result ≡ slim_lengths n b }
 {
-    match stores::limits(n, b) {
-        Judged::Refused(refusal) => Lend::Refused(refusal),
-        Judged::Passed => Lend::Sizes(slim_sizes(n, b, call_work(n), n)),
-    }
+    stores::limits(n, b)?;
+    Ok(slim_sizes(n, b, call_work(n), n))
 }

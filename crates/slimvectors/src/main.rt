@@ -2,13 +2,20 @@
 // the stores of a build and over stores that no build left (docs/VECTORS.md).
 #![tactic(auto)]
 
-use samplings::builds::Profile;
+use samples::console::Console;
+use samplings::profiles::Slim;
 use samplings::{answers, refused, spoiled, told, verdict_lines};
+use std::io;
+
+fn print(rt: &impl Print) -> io::Result<()> {
+    verdict_lines::print::<Slim>(rt)?;
+    refused::print::<Slim>(rt)?;
+    told::print::<Slim>(rt)?;
+    answers::print::<Slim>(rt)?;
+    spoiled::slim_print(rt)
+}
 
 fn main() {
-    verdict_lines::print(Profile::Slim);
-    refused::print(Profile::Slim);
-    told::print(Profile::Slim);
-    answers::print(Profile::Slim);
-    spoiled::slim_print();
+    // A program that can't write ends as one that could: what it prints is compared.
+    let _ = print(&Console);
 }

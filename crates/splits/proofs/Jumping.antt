@@ -9,7 +9,6 @@ use borrow.Author.Tests.{ltb-true, leb-true, leb-false, lt-ltb, le-leb}
 use lib.Dec.{leb, ltb}
 use lib.ListN.{length}
 use Rattle.tables.specs.Tables.{key_at, Table}
-use Rattle.tables.specs.Delimiters.{delimiters}
 use Rattle.splits.specs.Splits.{len, left, right, left_entry, right_entry}
 use Rattle.splits.specs.Inner.{Rising, goes_on}
 use Rattle.basics.proofs.Bools.{both}
@@ -63,12 +62,7 @@ module _ (T : List ℕ) (t : Table T) (m : ℕ) (pos : 0 < m) (small : m < lengt
       omega (arith, goes_false T j (len T m) e p s)
 
 -- the jumps of the code, for the split m whose length is l: `go` is whether it jumps on from row j
-module _ (b : ℕ) (keys : List ℕ) (m l : ℕ) (r : Rising b keys m) (e : l ≡ len (delimiters b keys) m)
-    {go : Bool} (j : ℕ)
-    (tested : go ≡ goes_on (delimiters b keys) j l) where
-  abbrev T : List ℕ
-  T = delimiters b keys
-
+module _ (T : List ℕ) (m l : ℕ) (r : Rising T m) (e : l ≡ len T m) {go : Bool} (j : ℕ) (tested : go ≡ goes_on T j l) where
   pos : 0 < m
   pos = r.split.pos
 

@@ -10,7 +10,6 @@ use borrow.Author.Tests.{ltb-true, ltb-false, eqb-true, eqb-false, lt-ltb, le-lt
 use lib.Dec.{ltb, eqb}
 use lib.ListN.{length}
 use Rattle.words.specs.Keys.{first_bits}
-use Rattle.words.proofs.Sharing.{shared_le}
 use Rattle.tables.specs.Tables.{key_at, Table}
 use Rattle.splits.specs.Splits.{len, left, right, smaller_of, root_to, root, parent_len}
 use Rattle.splits.specs.Splits.{left_entry, right_entry, length_entry}
@@ -73,26 +72,31 @@ root_lt T h = omega (arith, (root_to_smallest T (length T - 1)).within)
 pub root_least : RootLeast
 root_least T m h l = (root_to_smallest T (length T - 1)).least m h (omega arith)
 
--- the root by one more split
-pub root_more : (T : List ℕ) (m : ℕ) → 0 < m → smaller_of T (root_to T (m - 1)) m ≡ root_to T m
+-- the root by one more split, k = m: that split where its length is smaller, and otherwise the root so far
+root_more : (T : List ℕ) (m : ℕ) → 0 < m → root_to T m ≡ smaller_of T (root_to T (m - 1)) m
 unfolding root_to
 root_more T zero h = absurd (omega arith)
 root_more T (suc k) h = let e : suc k - 1 ≡ k = omega arith in rw e
 
--- the code compares with the length that it kept, where 0 has the length 65
-pub smaller_later : (T : List ℕ) (r m : ℕ) → len T m < cond (eqb r 0) 65 (len T r) → m ≡ smaller_of T r m
-smaller_later T r m = by (eqb r 0)
-  where
-    by : (z : Bool) → len T m < cond z 65 (len T r) → m ≡ cond z m (cond (ltb (len T m) (len T r)) m r)
-    by true h = refl
-    by false h = rw (lt-ltb (len T m) (len T r) h)
+pub root_one : (T : List ℕ) → root_to T 1 ≡ 1
+unfolding root_to
+root_one T = refl
 
-pub smaller_kept : (T : List ℕ) (r m : ℕ) → cond (eqb r 0) 65 (len T r) ≤ len T m → r ≡ smaller_of T r m
-smaller_kept T r m = by (eqb r 0)
-  where
-    by : (z : Bool) → cond z 65 (len T r) ≤ len T m → r ≡ cond z m (cond (ltb (len T m) (len T r)) m r)
-    by true h = absurd (omega (arith, shared_le (key_at T (m - 1)) (key_at T m)))
-    by false h = rw (le-ltb (len T m) (len T r) h)
+pub root_none : (T : List ℕ) → length T < 2 → root T ≡ 0
+unfolding root_to
+root_none T h = let e : length T - 1 ≡ 0 = omega arith in rw e
+
+pub root_shorter : (T : List ℕ) (k m r : ℕ) → k ≡ m → 0 < m → 0 < r → r ≡ root_to T (m - 1)
+    → len T m < len T r → root_to T k ≡ m
+root_shorter T k m r e pos some is h =
+    rw (e, root_more T m pos, ← is, ne_eqb r 0 (λ z. omega arith), lt-ltb (len T m) (len T r) h)
+
+pub root_kept : (T : List ℕ) (k m r : ℕ) → k ≡ m → 0 < m → 0 < r → r ≡ root_to T (m - 1)
+    → len T r ≤ len T m → root_to T k ≡ r
+root_kept T k m r e pos some is h =
+    rw (e, root_more T m pos, ← is, ne_eqb r 0 (λ z. omega arith), le-ltb (len T m) (len T r) h)
+
+pub ruleset rooting = (root_one, root_none, root_shorter, root_kept)
 
 -- the entries of the stores
 pub left_root : (T : List ℕ) → left_entry T 0 ≡ root T

@@ -77,3 +77,6 @@ wrote_first n N entry a b v count some room same first W =
 pub wrote_nothing : (n : ℕ) (entry : ℕ → ℕ) (a : List ℕ) → n ≡ 0 → a ≡ listed n entry ++ drop n a
 unfolding listed
 wrote_nothing n entry a e = rw e
+
+-- the laws of a loop that writes the entries
+pub ruleset writing = (wrote_none, wrote_up, wrote_down, wrote_nothing)

@@ -1,25 +1,17 @@
--- What only the contracts of inner functions need: a table whose delimiters are counted, and stores while they are
--- written.
+-- What only the contracts of inner functions need: a split of a list, and stores while they are written.
 use Rattle.std.specs.Prelude.{◌≡◌, Bool, ◌&&◌, List, ℕ, ◌≤◌, ◌<◌, leb, ltb, length, get_or}
 use Rattle.tables.specs.Tables.{Table}
-use Rattle.tables.specs.Delimiters.{delimiters, Bucketed}
 use Rattle.splits.specs.Splits.{len, left_entry, right_entry}
 
--- m is a split of the delimiters
-pub record SplitOf (b : ℕ) (keys : List ℕ) (m : ℕ) : Type 0 where
-  pub bucketed : Bucketed b keys
+-- m is a split of the list T
+pub record SplitOf (T : List ℕ) (m : ℕ) : Type 0 where
   pub pos : 0 < m
-  pub small : m < length (delimiters b keys)
+  pub small : m < length T
 
--- n counts the delimiters
-pub record CountOf (b : ℕ) (keys : List ℕ) (n : ℕ) : Type 0 where
-  pub bucketed : Bucketed b keys
-  pub rows : n ≡ length (delimiters b keys)
-
--- the delimiters rise, and m is a split of them
-pub record Rising (b : ℕ) (keys : List ℕ) (m : ℕ) : Type 0 where
-  pub table : Table (delimiters b keys)
-  pub split : SplitOf b keys m
+-- the list rises, and m is a split of it
+pub record Rising (T : List ℕ) (m : ℕ) : Type 0 where
+  pub table : Table T
+  pub split : SplitOf T m
 
 -- the store holds the entries from lo up to, not including, hi
 pub record Holds (entry : ℕ → ℕ) (lo hi : ℕ) (store : List ℕ) : Type 0 where
@@ -27,19 +19,18 @@ pub record Holds (entry : ℕ → ℕ) (lo hi : ℕ) (store : List ℕ) : Type 0
   pub entries : (i : ℕ) → lo ≤ i → i < hi → get_or store i 0 ≡ entry i
 
 -- the stores hold the bounds of split m
-pub record Bounded (b : ℕ) (keys lefts rights : List ℕ) (m : ℕ) : Type 0 where
-  pub rising : Rising b keys m
+pub record Bounded (T lefts rights : List ℕ) (m : ℕ) : Type 0 where
+  pub rising : Rising T m
   pub left_room : m < length lefts
   pub right_room : m < length rights
-  pub left_is : get_or lefts m 0 ≡ left_entry (delimiters b keys) m
-  pub right_is : get_or rights m 0 ≡ right_entry (delimiters b keys) m
+  pub left_is : get_or lefts m 0 ≡ left_entry T m
+  pub right_is : get_or rights m 0 ≡ right_entry T m
 
--- the delimiters rise, and both stores have an entry for each
-pub record Roomy (b : ℕ) (keys lefts rights : List ℕ) : Type 0 where
-  pub bucketed : Bucketed b keys
-  pub table : Table (delimiters b keys)
-  pub left_room : length (delimiters b keys) ≤ length lefts
-  pub right_room : length (delimiters b keys) ≤ length rights
+-- the list rises, and both stores have an entry for each of its keys
+pub record Roomy (T lefts rights : List ℕ) : Type 0 where
+  pub table : Table T
+  pub left_room : length T ≤ length lefts
+  pub right_room : length T ≤ length rights
 
 -- row j is a split with a string of l bits or more
 abbrev pub goes_on : List ℕ → ℕ → ℕ → Bool

@@ -4,16 +4,20 @@ use mathlib.Core.Path.{◌≡◌, refl, sym, ap, ◌∙◌}
 use mathlib.Core.Bool.{Bool, true, false, cond}
 use mathlib.Core.List.{List}
 use Prim.Native.Nat.{ℕ, suc, ◌≤◌, ◌<◌}
+use native.Mathlib.Nat.{le_refl}
 use native.Mathlib.Omega.{arith}
 use borrow.Author.Tests.{ltb-false}
 use lib.Dec.{ltb}
 use lib.ListN.{length}
 use Rattle.basics.proofs.Bools.{differ, past_test}
-use Rattle.refusals.specs.Numbers.{BuildSaid, taken, refused}
-use Rattle.refusals.proofs.Naming.{test_passed}
-use Rattle.tables.specs.Tables.{most_keys, first_fall}
+use Rattle.std.specs.Prelude.{Some, None}
+use Rattle.refusals.specs.Numbers.{store_number, BuildSaid, taken, refused}
+use Rattle.refusals.specs.declared.Store.{Store}
+use Rattle.refusals.proofs.Naming.{test_passed, store_some}
+use Rattle.tables.specs.Tables.{most_keys, first_fall, fall_of}
+use Rattle.tables.proofs.Rising.{fall_row, no_fall}
 use Rattle.stores.specs.Limits.{limited}
-use Rattle.stores.specs.Sizes.{short_store, Fits}
+use Rattle.stores.specs.Sizes.{number_named, short_store, Fits}
 use Rattle.stores.specs.Judged.{fall_or_short, judged, ask_refused}
 use Rattle.stores.specs.Vouched.{NoneShortIff, NoneRefusedIff, AskPassesIff, OneToFour}
 use Rattle.stores.specs.declared.Sizes.{Sizes}
@@ -45,6 +49,9 @@ module _ (h w : Sizes) where
         bytes = ltb-false _ _ t₇.0;
       }
 
+  pub none_named : number_named None ≡ short_store h w → Fits h w
+  none_named e = none_short (sym e)
+
   pub all_fit : Fits h w → short_store h w ≡ 0
   unfolding short_store
   all_fit F =
@@ -67,6 +74,24 @@ module _ (keys : List ℕ) (have want : Sizes) {row short : ℕ} (falls : row �
   pub neither : row ≤ 0 → short ≤ 0 → taken ≡ fall_or_short keys have want
   unfolding fall_or_short
   neither l m = rw (← falls, ← is) (sym (goes_on _ l (goes_on _ m refl)))
+
+-- and as the code finds them
+module _ (keys : List ℕ) (have want : Sizes) where
+  pub falls_said : {row : ℕ} → Some row ≡ fall_of keys → refused 3 row ≡ fall_or_short keys have want
+  falls_said e = let f = fall_row keys e in falls_first keys have want f.0 refl f.1
+
+  module _ (rises : None ≡ fall_of keys) where
+    zero : first_fall keys ≤ 0
+    zero = omega (arith, no_fall keys rises)
+
+    pub short_said : (store : Store) → number_named (Some store) ≡ short_store have want
+        → refused 4 (store_number store) ≡ fall_or_short keys have want
+    short_said store is = short_next keys have want refl is zero (store_some store)
+
+    pub passed_said : number_named None ≡ short_store have want → taken ≡ fall_or_short keys have want
+    passed_said is = neither keys have want refl is zero (le_refl 0)
+
+pub ruleset as_judged = (falls_said, short_said, passed_said)
 
 -- none of refusals 1 to 4 applies
 pub record Passed (keys : List ℕ) (b : ℕ) (have want : Sizes) : Type 0 where
@@ -140,6 +165,10 @@ module _ {A : Type 0} (refuse : ℕ → ℕ → A) (n b : ℕ) (have want : Size
       → ask_refused refuse n b have want said ≡ refuse 4 short
   unfolding ask_refused
   ask_short said W is h = rw (← is) (within refuse n b W (refuses _ _ h))
+
+  pub ask_named : (said : A) → Within n b → (store : Store) → number_named (Some store) ≡ short_store have want
+      → ask_refused refuse n b have want said ≡ refuse 4 (store_number store)
+  ask_named said W store is = ask_short said W is (store_some store)
 
   -- it passes them with a bucket size and a table within the limits and room in its stores
   pub ask_passes : {said : A} → Within n b → Fits have want → ask_refused refuse n b have want said ≡ said

@@ -3,6 +3,7 @@
 use mathlib.Core.Path.{◌≡◌, refl, sym, ap, ◌∙◌}
 use mathlib.Core.Bool.{Bool, true, false, cond}
 use Prim.Native.Nat.{ℕ, ◌≤◌, ◌<◌}
+use native.Mathlib.Omega.{arith}
 use borrow.Author.Tests.{ltb-false}
 use lib.Dec.{ltb}
 use Rattle.basics.proofs.Bools.{differ, past_test}
@@ -21,10 +22,6 @@ module _ {A : Type 0} (refuse : ℕ → ℕ → A) (n b : ℕ) where
   pub within : Within n b → {said r : A} → said ≡ r → limited refuse n b said ≡ r
   unfolding limited
   within W e = goes_on _ W.few (goes_on _ W.two (goes_on _ W.most e))
-
-  pub too_many_keys : most_keys < n → (said : A) → limited refuse n b said ≡ refuse 1 0
-  unfolding limited
-  too_many_keys h said = refuses _ _ h
 
   pub bucket_too_small : n ≤ most_keys → b < 2 → (said : A) → limited refuse n b said ≡ refuse 2 0
   unfolding limited
@@ -68,6 +65,10 @@ same_tests refuse said false false false = refl
 module _ (n b : ℕ) where
   pub limits_passed : taken ≡ limited refused n b taken → Within n b
   limits_passed e = (said_within refused n b (λ k i d. differ (cc)) (sym e)).0
+
+  -- the limits within which lengths are named
+  pub limits_named : taken ≡ limited refused n b taken → (1 ≤ b) × (b ≤ 256) × (n ≤ 32768)
+  limits_named e = let W = limits_passed e in (omega (arith, W.two), W.most, W.few)
 
   pub limits_refused : {A : Type 0} (refuse : ℕ → ℕ → A) (said : A) {k i : ℕ} → refused k i ≡ limited refused n b taken
       → limited refuse n b said ≡ refuse k i

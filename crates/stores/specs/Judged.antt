@@ -1,13 +1,12 @@
 -- Document 01, "Refusal numbers and their order", and request Seven: what a build refuses before it builds, checked
 -- over all stores together, and what an ask refuses before it looks.
-use Rattle.std.specs.Prelude.{cond, List, ℕ, ltb, length}
+use Rattle.std.specs.Prelude.{cond, Result, Ok, Err, List, ℕ, ltb, length}
 use Rattle.refusals.specs.Numbers.{number, names, BuildSaid, taken, refused}
+use Rattle.refusals.specs.declared.Refusal.{Refusal}
 use Rattle.tables.specs.Tables.{first_fall}
 use Rattle.stores.specs.Limits.{limited}
 use Rattle.stores.specs.Sizes.{short_store}
 use Rattle.stores.specs.declared.Sizes.{Sizes}
-use Rattle.stores.specs.declared.Judged.{Judged}
-use Rattle.stores.specs.declared.Judged.TheVariants.{Passed, Refused}
 
 -- refusals 3 and 4; `taken` if neither applies
 unfoldable pub fall_or_short : List ℕ → (have want : Sizes) → BuildSaid
@@ -26,6 +25,6 @@ ask_refused refuse n b have want said =
     let short = short_store have want in limited refuse n b (cond (ltb 0 short) (refuse 4 short) said)
 
 -- what the judging says of a build: that so far it accepts, or a refusal
-abbrev pub said_by_judge : Judged → BuildSaid
-said_by_judge Passed = taken
-said_by_judge (Refused r) = refused (number r) (names r)
+abbrev pub said_by_judge : Result (Unit {0}) Refusal → BuildSaid
+said_by_judge (Ok passed) = taken
+said_by_judge (Err r) = refused (number r) (names r)

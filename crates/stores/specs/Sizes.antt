@@ -1,13 +1,13 @@
 -- Document 01, "Refusal numbers and their order", and requests Six and Eight: refusal 4, and the named lengths of the
 -- stores that each entry of the full index is lent, for n keys and bucket size b. (Those of the slim profile stand in
 -- slimstores.) A request that adds a store adds a field and a line here.
-use Rattle.std.specs.Prelude.{cond, ℕ, ◌≤◌, ltb}
-use Rattle.refusals.specs.Numbers.{number, names}
+use Rattle.std.specs.Prelude.{cond, Option, Some, None, Result, Ok, Err, ℕ, ◌≤◌, ltb}
+use Rattle.refusals.specs.Numbers.{store_number, number, names}
+use Rattle.refusals.specs.declared.Store.{Store}
+use Rattle.refusals.specs.declared.Refusal.{Refusal}
 use Rattle.tables.specs.Lengths.{call_cells, handle_cells, call_work}
 use Rattle.stores.specs.Limits.{limited}
 use Rattle.stores.specs.declared.Sizes.{Sizes}
-use Rattle.stores.specs.declared.Lend.{Lend}
-use Rattle.stores.specs.declared.Lend.TheVariants as lend
 
 -- the first store that is shorter than it has to be, 0 if none is: 1 call or offset cells, 2 handle cells, 3 left, 4
 -- right, 5 work, 6 lengths, 7 row bytes
@@ -21,7 +21,12 @@ short_store have want =
     (cond (ltb have.lengths want.lengths) 6
     (cond (ltb have.bytes want.bytes) 7 0))))))
 
--- none is
+-- the number of the store that is named, 0 if none is
+abbrev pub number_named : Option Store → ℕ
+number_named None = 0
+number_named (Some store) = store_number store
+
+-- no store is shorter than it has to be
 pub record Fits (have want : Sizes) : Type 0 where
   pub cells : want.cells ≤ have.cells
   pub handles : want.handles ≤ have.handles
@@ -65,9 +70,9 @@ pub data LendSaid : Type 0 where
   sizes : Sizes → LendSaid
   refused : ℕ → ℕ → LendSaid
 
-abbrev pub said_by_lend : Lend → LendSaid
-said_by_lend (lend.Sizes s) = sizes s
-said_by_lend (lend.Refused r) = refused (number r) (names r)
+abbrev pub said_by_lend : Result Sizes Refusal → LendSaid
+said_by_lend (Ok s) = sizes s
+said_by_lend (Err r) = refused (number r) (names r)
 
 -- refusals 1 and 2, then the lengths
 unfoldable pub named_lengths : ℕ → ℕ → LendSaid

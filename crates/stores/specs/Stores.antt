@@ -1,5 +1,5 @@
--- What a build is lent and an ask reads, as one value. Every theorem on builds is over it; in the code the stores are
--- slices of their own.
+-- What a build is lent and an ask reads, as one value. Every theorem on builds is over it; Inner says what the code's
+-- own value of lent slices holds.
 use Rattle.std.specs.Prelude.{List, [], ℕ, length}
 use Rattle.cells.specs.Memory.{cleared}
 use Rattle.stores.specs.declared.Sizes.{Sizes}

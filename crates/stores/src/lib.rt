@@ -8,11 +8,13 @@
 ghost use Rattle.std.specs.Prelude.{◌≡◌, ◌≤◌};
 ghost use Rattle.refusals.specs.Numbers.{taken, refused};
 ghost use Rattle.stores.specs.Limits.{limited};
-ghost use Rattle.stores.specs.Sizes.{short_store, store_sizes, full_sizes, call_sizes, neighbour_sizes};
+ghost use Rattle.stores.specs.Sizes.{number_named, short_store, store_sizes, full_sizes, call_sizes, neighbour_sizes};
 ghost use Rattle.stores.specs.Sizes.{said_by_lend, named_lengths};
 ghost use Rattle.stores.specs.Judged.{fall_or_short, said_by_judge};
 
-use refusals::Refusal;
+pub mod lent;
+
+use refusals::{Refusal, Store};
 use tables::lengths::{call_cells, call_work, handle_cells};
 use tables::table::first_fall;
 
@@ -29,46 +31,46 @@ pub struct Sizes {
     pub bytes: usize,
 }
 
-// What a caller has to lend, or the refusal that a build would give whatever is lent.
-#[derive(Clone, Copy)]
-pub enum Lend {
-    Sizes(Sizes),
-    Refused(Refusal),
+impl Sizes {
+    // No store at all.
+    pub const NONE: Sizes = Sizes {
+        cells: 0,
+        handles: 0,
+        left: 0,
+        right: 0,
+        work: 0,
+        lengths: 0,
+        bytes: 0,
+    };
 }
 
-// What is said of a build before it builds, or of an ask before it looks.
-#[derive(Clone, Copy)]
-pub enum Judged {
-    Passed,
-    Refused(Refusal),
-}
-
-// The number of the first store that is too short, 0 if none is.
-pub fn short_store(have: Sizes, want: Sizes) -> u8
-    ensures { result ≡ short_store have want }
+// The first store that is too short, if one is.
+#[tactic(auto, unfolding(crate::specs::Sizes::short_store))]
+pub fn short_store(have: Sizes, want: Sizes) -> Option<Store>
+    ensures { number_named result ≡ short_store have want }
 {
     if have.cells < want.cells {
-        return 1;
+        return Some(Store::Cells);
     }
     if have.handles < want.handles {
-        return 2;
+        return Some(Store::Handles);
     }
     if have.left < want.left {
-        return 3;
+        return Some(Store::Left);
     }
     if have.right < want.right {
-        return 4;
+        return Some(Store::Right);
     }
     if have.work < want.work {
-        return 5;
+        return Some(Store::Work);
     }
     if have.lengths < want.lengths {
-        return 6;
+        return Some(Store::Lengths);
     }
     if have.bytes < want.bytes {
-        return 7;
+        return Some(Store::Bytes);
     }
-    0
+    None
 }
 
 // The lengths of the stores of n keys in buckets of b rows, beside so many row bytes.
@@ -102,70 +104,61 @@ pub fn call_sizes(n: usize, b: usize) -> Sizes
 {
     Sizes {
         cells: call_cells(n, b),
-        handles: 0,
-        left: 0,
-        right: 0,
-        work: 0,
-        lengths: 0,
         bytes: n,
+        ..Sizes::NONE
     }
 }
 
-// What a neighbour ask reads.
+// What a neighbour ask reads: no store that a call ask does.
 pub fn neighbour_sizes(n: usize) -> Sizes
     requires { n ≤ 32768 }
     ensures { result ≡ neighbour_sizes n }
 {
+    let handles = handle_cells(n);
     Sizes {
-        cells: 0,
-        handles: handle_cells(n),
+        handles,
         left: n,
         right: n,
-        work: 0,
         lengths: n,
-        bytes: 0,
+        ..Sizes::NONE
     }
 }
 
 // Refusal 1 for more than 32,768 keys, then 2 for a b outside 2 to 256: before all others, wherever a table of n keys
 // and a bucket size are judged.
-pub fn limits(n: usize, b: usize) -> Judged
+#[tactic(auto, unfolding(crate::specs::Limits::limited))]
+pub fn limits(n: usize, b: usize) -> Result<(), Refusal>
     ensures { said_by_judge result ≡ limited refused n b taken }
 {
     if n > 32768 {
-        return Judged::Refused(Refusal::TooManyKeys);
+        return Err(Refusal::TooManyKeys);
     }
-    if b < 2 {
-        return Judged::Refused(Refusal::BucketSize);
+    if b < 2 || b > 256 {
+        return Err(Refusal::BucketSize);
     }
-    if b <= 256 {
-        return Judged::Passed;
-    }
-    Judged::Refused(Refusal::BucketSize)
+    Ok(())
 }
 
 // The named length of every store that the full build, the call ask or the neighbour ask is lent, for n keys in buckets
 // of b rows, or refusal 1 or 2.
-pub fn named_lengths(n: usize, b: usize) -> Lend
+#[tactic(auto, using(crate::proofs::Lending::as_named))]
+pub fn named_lengths(n: usize, b: usize) -> Result<Sizes, Refusal>
     ensures { said_by_lend result ≡ named_lengths n b }
 {
-    match limits(n, b) {
-        Judged::Refused(refusal) => Lend::Refused(refusal),
-        Judged::Passed => Lend::Sizes(store_sizes(n, b, n)),
-    }
+    limits(n, b)?;
+    Ok(store_sizes(n, b, n))
 }
 
 // Refusals 3 and 4 of a build, once 1 and 2 do not apply.
-pub fn judge(keys: &[u64], have: Sizes, want: Sizes) -> Judged
+#[tactic(auto, using(crate::proofs::Judging::as_judged))]
+pub fn judge(keys: &[u64], have: Sizes, want: Sizes) -> Result<(), Refusal>
     ensures { said_by_judge result ≡ fall_or_short keys.now have want }
 {
-    let row = first_fall(keys);
-    let short = short_store(have, want);
-    if 0 < row {
-        return Judged::Refused(Refusal::Falls(row));
+    if let Some(row) = first_fall(keys) {
+        return Err(Refusal::Falls(row));
     }
-    if 0 < short {
-        return Judged::Refused(Refusal::Short(short));
+    if let Some(store) = short_store(have, want) {
+        return Err(Refusal::Short(store));
     }
-    Judged::Passed
+    Ok(())
 }

@@ -1,6 +1,6 @@
 -- The laws of buckets: all keys of a bucket share the bits that its first and its last share, and no two buckets have
 -- the same prefix. Assumes nothing.
-use mathlib.Core.Path.{◌≡◌, sym, ap}
+use mathlib.Core.Path.{◌≡◌, sym, ap, ◌∙◌}
 use mathlib.Core.Bool.{Bool, true, false, cond}
 use mathlib.Core.List.{List, [], ◌∷◌}
 use mathlib.Core.Logic.{◌⊎◌, ⊎_elim}
@@ -107,6 +107,16 @@ module _ (T : List ℕ) (t : Table T) where
         ⊎_elim (λ one. omega (arith, length_one one))
         (λ more. omega (arith, length_more more, shared_lt (first_key b T i) (last_key b T i) first_fits last_fits (first_below more))) one_or_more
 
+    -- the length, as the code reads it off the first key and the last
+    pub length_read : {e s : ℕ} → e ≡ bucket_end (length T) b i → (i * b ≡ e - 1 → ⊥)
+        → s ≡ shared_bits (key_at T (i * b)) (key_at T (e - 1)) → (s ≡ bucket_length b T i) × (s ≤ 63)
+    length_read {e} {s} ends apart is =
+        let w = within in
+        let e_is : e - 1 ≡ bucket_end (length T) b i - 1 = rw ends in
+        let more : suc (i * b) < bucket_end (length T) b i = ⊎_elim (λ one. absurd (apart (omega arith))) (λ m. m) one_or_more in
+        let same : s ≡ bucket_length b T i = is ∙ rw (length_more more) (ap (λ (r : ℕ). shared_bits (key_at T (i * b)) (key_at T r)) e_is) in
+        (same, omega (arith, length_small))
+
     -- two keys or more are the same up to digit k, and part there
     parts : More b T i → (k : ℕ) → bucket_length b T i + suc k ≡ 64
         → (first_key b T i / 2 ^ suc k ≡ last_key b T i / 2 ^ suc k) × (first_key b T i / 2 ^ k < last_key b T i / 2 ^ k)
@@ -179,3 +189,5 @@ has_bucket_limits n b i e =
 pub view_rows : (T : List ℕ) (b i to : ℕ) → has_bucket (length T) b i ≡ true → to ≡ bucket_end (length T) b i
     → take (to - i * b) (drop (i * b) T) ≡ bucket_view b T i
 view_rows T b i to has e = rw (has, e) (part_slice (i * b) (bucket_end (length T) b i) T)
+
+pub ruleset view_cut = (bucket_begins, has_bucket_limits, view_rows)

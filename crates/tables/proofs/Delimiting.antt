@@ -87,9 +87,5 @@ delimiters_one T =
 pub delimiters_all : {b : ℕ} (T : List ℕ) → b ≡ 1 → delimiters b T ≡ T
 delimiters_all T e = rw e (delimiters_one T)
 
--- the row of a delimiter, as the code finds it
-pub row_inner : (n b i : ℕ) → i * b + b ≤ n → i * b + b - 1 ≡ bucket_end n b i - 1
-row_inner n b i h = omega (arith, next_row i b)
-
-pub row_last : (n b i : ℕ) → n < i * b + b → n - 1 ≡ bucket_end n b i - 1
-row_last n b i h = omega (arith, next_row i b)
+-- how the code reads a delimiter
+pub ruleset delimiter_read = (delimiters_all, delimiter_is, length_delimiters)

@@ -9,10 +9,12 @@ use native.Mathlib.Nat.{le_refl, eq-or-lt_of_le}
 use native.Mathlib.Numerals.{add-one, unary_clauses}
 use native.Mathlib.Decide.{le_ind}
 use native.Mathlib.Omega.{arith}
-use borrow.Author.Tests.{leb-true, leb-false, le-leb, lt-leb}
-use lib.Dec.{leb}
+use borrow.Author.Tests.{leb-true, leb-false, le-leb, lt-leb, lt-ltb, ltb-true, ltb-false}
+use lib.Dec.{leb, ltb}
 use lib.ListN.{length}
-use Rattle.tables.specs.Tables.{key_at, Table, fall_from, first_fall}
+use Rattle.std.specs.Prelude.{Option, Some, None}
+use Rattle.basics.proofs.Bools.{differ}
+use Rattle.tables.specs.Tables.{key_at, Table, fall_from, first_fall, fall_of}
 use Rattle.tables.specs.Vouched.{NoFallIff, FallNamed}
 
 -- later rows have larger keys
@@ -95,20 +97,42 @@ fall_named T r e h =
     (λ fall. (omega (arith, fall.to), rw e at fall.falls, rw e at fall.rise)) (all_rows T)
 
 -- the search row by row, as the code makes it
-pub fall_here : (T : List ℕ) (i : ℕ) → i < length T → key_at T i ≤ key_at T (i - 1)
-    → fall_from T i (length T - i) ≡ i
-unfolding fall_from
-fall_here T i h l =
-    let left : length T - i ≡ suc (length T - suc i) = omega arith in
-    rw (left, le-leb (key_at T i) (key_at T (i - 1)) l)
+module _ (T : List ℕ) (i : ℕ) where
+  pub fall_here : first_fall T ≡ fall_from T i (length T - i) → 1 ≤ i → i < length T → key_at T i ≤ key_at T (i - 1)
+      → Some i ≡ fall_of T
+  unfolding fall_from
+  fall_here e from h l =
+      let left : length T - i ≡ suc (length T - suc i) = omega arith in
+      let is : first_fall T ≡ i = rw (left, le-leb (key_at T i) (key_at T (i - 1)) l) at e in
+      rw (is, lt-ltb 0 i from)
 
-pub fall_later : (T : List ℕ) (i : ℕ) → i < length T → key_at T (i - 1) < key_at T i
-    → fall_from T i (length T - i) ≡ fall_from T (i + 1) (length T - (i + 1))
-unfolding fall_from
-fall_later T i h l =
-    let left : length T - i ≡ suc (length T - suc i) = omega arith in
-    rw (left, lt-leb (key_at T i) (key_at T (i - 1)) l, add-one)
+  pub fall_later : i < length T → key_at T (i - 1) < key_at T i
+      → fall_from T i (length T - i) ≡ fall_from T (i + 1) (length T - (i + 1))
+  unfolding fall_from
+  fall_later h l =
+      let left : length T - i ≡ suc (length T - suc i) = omega arith in
+      rw (left, lt-leb (key_at T i) (key_at T (i - 1)) l, add-one)
 
-pub fall_past : (T : List ℕ) (i : ℕ) → length T ≤ i → fall_from T i (length T - i) ≡ 0
-unfolding fall_from
-fall_past T i h = let none : length T - i ≡ 0 = omega arith in rw none
+  pub fall_past : first_fall T ≡ fall_from T i (length T - i) → length T ≤ i → None ≡ fall_of T
+  unfolding fall_from
+  fall_past e h =
+      let none : length T - i ≡ 0 = omega arith in
+      let is : first_fall T ≡ 0 = rw none at e in
+      rw is
+
+pub ruleset searched_by_row = (fall_here, fall_later, fall_past)
+
+-- the row that is named or not, in numbers
+by_row : (n r : ℕ) (t : Bool) → ltb 0 n ≡ t → Some r ≡ cond t (Some n) None → (r ≡ n) × (0 < r)
+by_row n r true h e = let same : r ≡ n = cc in (same, rw same (ltb-true 0 n h))
+by_row n r false h e = differ (cc)
+
+by_none : (n : ℕ) (t : Bool) → ltb 0 n ≡ t → ◌≡◌ {A = Option ℕ} None (cond t (Some n) None) → n ≡ 0
+by_none n true h e = differ (cc)
+by_none n false h e = omega (arith, ltb-false 0 n h)
+
+pub fall_row : (T : List ℕ) {r : ℕ} → Some r ≡ fall_of T → (r ≡ first_fall T) × (0 < r)
+fall_row T {r} e = by_row (first_fall T) r (ltb 0 (first_fall T)) refl e
+
+pub no_fall : (T : List ℕ) → None ≡ fall_of T → first_fall T ≡ 0
+no_fall T e = by_none (first_fall T) (ltb 0 (first_fall T)) refl e

@@ -1,5 +1,5 @@
 -- Document 01, "The two indexes": a table is a list of 64-bit keys, strictly rising.
-use Rattle.std.specs.Prelude.{Bool, cond, List, [], ◌∷◌, ℕ, zero, suc, ◌-◌, ◌^◌, ◌<◌, min, leb, ltb, length, get_or}
+use Rattle.std.specs.Prelude.{Bool, cond, Option, Some, None, List, [], ◌∷◌, ℕ, zero, suc, ◌-◌, ◌^◌, ◌<◌, min, leb, ltb, length, get_or}
 use Rattle.words.specs.Keys.{shared_bits}
 
 -- a table has at most so many keys
@@ -23,6 +23,10 @@ fall_from T i (suc d) = cond (leb (key_at T i) (key_at T (i - 1))) i (fall_from 
 -- the first row that is not above the one before it; 0 if there is none
 abbrev pub first_fall : List ℕ → ℕ
 first_fall T = fall_from T 1 (length T - 1)
+
+-- that row, or none
+abbrev pub fall_of : List ℕ → Option ℕ
+fall_of T = cond (ltb 0 (first_fall T)) (Some (first_fall T)) None
 
 -- how many of the keys pass the test
 unfoldable pub count : (ℕ → Bool) → List ℕ → ℕ

@@ -1,26 +1,15 @@
-// Buckets: where each ends, how many leading bits its keys share, and the view of one.
+// Buckets: how many leading bits its keys share, and the view of one.
 ghost use Rattle.std.specs.Prelude.{◌≡◌, ◌+◌, ◌*◌, ◌≤◌, ◌<◌, length};
 ghost use Rattle.tables.specs.Tables.{Table};
-ghost use Rattle.tables.specs.Delimiters.{buckets, bucket_end, Bucketed};
+ghost use Rattle.tables.specs.Delimiters.{buckets, Bucketed};
 ghost use Rattle.tables.specs.Buckets.{bucket_length, has_bucket, bucket_view, view_start};
 
-use crate::delimiter::bucket_count;
+use crate::delimiter::{bucket_count, bucket_end};
 use words::prefix::shared_bits;
-
-// The row after bucket i's last one.
-fn bucket_end(n: usize, b: usize, i: usize) -> usize
-    requires { (1 ≤ b) × (b ≤ 256) × (n ≤ 32768) × (i < buckets n b) }
-    ensures { (result ≡ bucket_end n b i) × (i * b < result) × (result ≤ n) }
-{
-    let end = i * b + b;
-    if end <= n {
-        return end;
-    }
-    n
-}
 
 // How many leading bits all keys of bucket i share, which in a table are those of its first and last key; 63 for a
 // bucket of one key.
+#[tactic(auto, using(crate::proofs::Delimiting::bucket_begins, crate::proofs::Bucketing::length_one))]
 pub fn bucket_length(keys: &[u64], b: usize, i: usize) -> u32
     requires { Table keys.now × Bucketed b keys.now × (i < buckets (length keys.now) b) }
     ensures { (result ≡ bucket_length b keys.now i) × (result ≤ 63) }
@@ -34,23 +23,16 @@ pub fn bucket_length(keys: &[u64], b: usize, i: usize) -> u32
 }
 
 // Whether n and b are within their limits and there is a bucket i.
+#[tactic(auto, unfolding(crate::specs::Buckets::has_bucket))]
 fn has_bucket(n: usize, b: usize, i: usize) -> bool
     ensures { result ≡ has_bucket n b i }
 {
-    if n > 32768 {
-        return false;
-    }
-    if b < 2 {
-        return false;
-    }
-    if b > 256 {
-        return false;
-    }
-    i < bucket_count(n, b)
+    n <= 32768 && 2 <= b && b <= 256 && i < bucket_count(n, b)
 }
 
 // Bucket i's rows as a part of the caller's own table: the same memory, from row i * b on. An empty part if n or b is
 // outside its limits or there is no bucket i. The keys need not rise.
+#[tactic(auto, using(crate::proofs::Bucketing::view_cut))]
 pub fn bucket_view(keys: &[u64], b: usize, i: usize) -> &[u64]
     ensures rows { result.now ≡ bucket_view b keys.now i }
     ensures own { result.ref_ptr

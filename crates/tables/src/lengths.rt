@@ -9,10 +9,7 @@ use cells::{cell_count, work_count};
 pub fn handle_count(n: usize) -> usize
     ensures { result ≡ handle_count n }
 {
-    if n < 2 {
-        return 0;
-    }
-    n - 2
+    n.saturating_sub(2)
 }
 
 // The cells of maps 1 and 2, in one store.

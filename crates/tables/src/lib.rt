@@ -6,5 +6,6 @@
 
 pub mod bucket;
 pub mod delimiter;
+pub mod delimiters;
 pub mod lengths;
 pub mod table;

@@ -3,13 +3,19 @@
 use mathlib.Core.Path.{◌≡◌, refl, sym, ap, ap₂, ◌∙◌}
 use mathlib.Core.List.{List}
 use Prim.Native.Nat.{ℕ}
+use Rattle.std.specs.Prelude.{Result, Ok}
 use Rattle.refusals.specs.Numbers.{BuildSaid, taken, jammed, said_by_build}
-use Rattle.refusals.specs.declared.Verdict.{Verdict}
-use Rattle.refusals.specs.declared.Verdict.TheVariants.{Taken}
+use Rattle.refusals.specs.declared.Unbuilt.{Unbuilt}
 use Rattle.refusals.proofs.Naming.{verdict_told, not_taken, jam_not_taken}
 use Rattle.stores.specs.Stores.{Stores}
 use Rattle.stores.specs.declared.Sizes.{Sizes}
 use Rattle.verdicts.specs.Ended.{Ended, refusal, jam, accepted}
+
+abbrev Verdict : Type 0
+Verdict = Result (Unit {0}) Unbuilt
+
+abbrev Taken : Verdict
+Taken = Ok tt
 
 -- two ends of one build: one verdict; where it accepts both stores are filled, and otherwise they are the same. So a
 -- store that filling determines is the same either way

@@ -5,7 +5,9 @@ use mathlib.Core.List.{List}
 use Prim.Native.Nat.{ℕ, ◌≤◌}
 use native.Mathlib.Omega.{arith}
 use lib.ListN.{length}
-use Rattle.refusals.specs.Numbers.{BuildSaid, taken}
+use Rattle.std.specs.Prelude.{Result, Ok, Err}
+use Rattle.refusals.specs.Numbers.{map_number, BuildSaid, taken}
+use Rattle.refusals.specs.declared.Jam.{Jam}
 use Rattle.refusals.proofs.Naming.{not_taken, jam_not_taken}
 use Rattle.stores.specs.Sizes.{Fits}
 use Rattle.stores.specs.Stores.{Stores, sizes_of}
@@ -13,8 +15,6 @@ use Rattle.stores.specs.declared.Sizes.{Sizes}
 use Rattle.stores.proofs.Judging.{Passed, judged_passed}
 use Rattle.verdicts.specs.Ended.{Ended, refusal, jam, accepted}
 use Rattle.verdicts.specs.Inner.{Ready, Mapped, Settled}
-use Rattle.verdicts.specs.declared.Maps.{Maps}
-use Rattle.verdicts.specs.declared.Maps.TheVariants.{Built, Jammed}
 use Rattle.verdicts.proofs.Clearing.{cleared_beyond}
 
 module _ {keys : List ℕ} {b : ℕ} {want : Sizes} {S : Stores} (R : Ready keys b want S) where
@@ -45,13 +45,13 @@ module _ {keys : List ℕ} {b : ℕ} {want : Sizes} {S : Stores} (R : Ready keys
 module _ {before : BuildSaid} {want : Sizes} {Jams : (map size : ℕ) → Type 0} {Jamless : Type 0}
     {Filled : Stores → Type 0} {S : Stores} where
   -- the verdict on the maps of a build that nothing else refuses is how it ends
-  pub settled : (maps : Maps) (S₁ : Stores) {w : Sizes} {said : BuildSaid} {S' : Stores} → before ≡ taken → w ≡ want
+  pub settled : (maps : Result (Unit {0}) Jam) (S₁ : Stores) {w : Sizes} {said : BuildSaid} {S' : Stores} → before ≡ taken → w ≡ want
       → Mapped want Jams Jamless Filled S maps S₁ → Settled w maps S₁ said S'
       → Ended before want Jams Jamless Filled S said S'
   unfolding Mapped Settled
-  settled Built S₁ j is M E = accepted j M.0 E.0 (rw E.1 M.1)
-  settled (Jammed map size) S₁ j is M E =
-      jam map size j M.0 E.0 (rw is at E.1 ∙ cleared_beyond want S S₁ M.1)
+  settled (Ok built) S₁ j is M E = accepted j M.0 E.0 (rw E.1 M.1)
+  settled (Err e) S₁ j is M E =
+      jam (map_number e.map) e.size j M.0 E.0 (rw is at E.1 ∙ cleared_beyond want S S₁ M.1)
 
   -- a build that accepts: nothing was refused, no map has a jam, and the stores are filled
   pub when_taken : {S' : Stores} → Ended before want Jams Jamless Filled S taken S'
@@ -59,3 +59,9 @@ module _ {before : BuildSaid} {want : Sizes} {Jams : (map size : ℕ) → Type 0
   when_taken (refusal k i j e c) = not_taken k i e refl
   when_taken (jam m p j J e c) = jam_not_taken m p e refl
   when_taken (accepted j N e F) = (j, N, F)
+
+-- what holds of the stores that a build leaves holds of slices that hold the same
+pub ended_as : {judged : BuildSaid} {w : Sizes} {Jams : (map size : ℕ) → Type 0} {Jamless : Type 0} {Filled : Stores → Type 0}
+    {S : Stores} {said : BuildSaid} {S' S'' : Stores} → Ended judged w Jams Jamless Filled S said S' → S'' ≡ S'
+    → Ended judged w Jams Jamless Filled S said S''
+ended_as B e = rw e B

@@ -8,70 +8,40 @@
 ghost use Rattle.std.specs.Prelude.{◌≡◌};
 ghost use Rattle.refusals.specs.Numbers.{said_by_build};
 ghost use Rattle.stores.specs.Sizes.{Fits};
-ghost use Rattle.stores.specs.Stores.{lent, sizes_of, cleared_stores};
+ghost use Rattle.stores.specs.Stores.{sizes_of, cleared_stores};
+ghost use Rattle.stores.specs.Inner.{held, SameStores};
 ghost use Rattle.verdicts.specs.Inner.{Settled};
 
-use cells::{clear, clear_bytes};
-use refusals::Verdict;
+use cells::clear;
+use refusals::{Jam, Unbuilt, Verdict};
 use stores::Sizes;
-
-// What building the maps of an index comes to: all maps are there; or the first that has a jam, and the size of its
-// largest jam.
-#[derive(Clone, Copy)]
-pub enum Maps {
-    Built,
-    Jammed { map: u8, size: usize },
-}
+use stores::lent::Stores;
 
 // All stores become 0 over their named lengths, those too that were not written: what a jam leaves.
-fn clear_stores(
-    want: Sizes,
-    cells: &mut [u16],
-    handles: &mut [u16],
-    left: &mut [u16],
-    right: &mut [u16],
-    work: &mut [u16],
-    lengths: &mut [u8],
-)
-    requires { Fits (sizes_of (lent cells.old handles.old left.old right.old work.old lengths.old)) want }
-    ensures { lent cells.new handles.new left.new right.new
-        work.new lengths.new
-        ≡ cleared_stores want (lent cells.old handles.old left.old
-        right.old work.old lengths.old) }
+fn clear_stores(want: Sizes, stores: &mut Stores)
+    requires { Fits (sizes_of (held stores.old)) want }
+    ensures clears { held stores.new ≡ cleared_stores want (held stores.old) }
+    ensures same { SameStores stores.old stores.new }
 {
-    clear(cells, want.cells);
-    clear(handles, want.handles);
-    clear(left, want.left);
-    clear(right, want.right);
-    clear(work, want.work);
-    clear_bytes(lengths, want.lengths);
+    clear(stores.cells, want.cells, 0);
+    clear(stores.handles, want.handles, 0);
+    clear(stores.left, want.left, 0);
+    clear(stores.right, want.right, 0);
+    clear(stores.work, want.work, 0);
+    clear(stores.lengths, want.lengths, 0);
 }
 
-// The verdict on the maps of a build that is judged. After a jam all stores are cleared over their named lengths,
-// whichever map had it; otherwise nothing is changed.
-pub fn settle(
-    maps: Maps,
-    want: Sizes,
-    cells: &mut [u16],
-    handles: &mut [u16],
-    left: &mut [u16],
-    right: &mut [u16],
-    work: &mut [u16],
-    lengths: &mut [u8],
-) -> Verdict
-    requires { Fits (sizes_of (lent cells.old handles.old left.old right.old work.old lengths.old)) want }
-    ensures { Settled want maps
-        (lent cells.old handles.old left.old right.old work.old
-        lengths.old)
-        (said_by_build result)
-        (lent cells.new handles.new left.new right.new work.new
-        lengths.new) }
+// The verdict on the maps of a build that is judged: `maps` tells the first that has a jam, if one has. After a jam all
+// stores are cleared over their named lengths, whichever map had it; otherwise nothing is changed.
+#[tactic(auto, unfolding(crate::specs::Inner::Settled))]
+pub fn settle(maps: Result<(), Jam>, want: Sizes, stores: &mut Stores) -> Verdict
+    requires { Fits (sizes_of (held stores.old)) want }
+    ensures settles { Settled want maps (held stores.old) (said_by_build result) (held stores.new) }
+    ensures same { SameStores stores.old stores.new }
 {
-    match maps {
-        Maps::Built => Verdict::Taken,
-        Maps::Jammed { map, size } => {
-            clear_stores(want, cells, handles, left, right, work, lengths);
-            Verdict::Jammed { map, size }
-        }
+    if let Err(jam) = maps {
+        clear_stores(want, stores);
+        return Err(Unbuilt::Jammed(jam));
     }
+    Ok(())
 }

@@ -1,7 +1,6 @@
 -- Remainders by m from products with its reciprocal r. W is 2 ^ 64, or any number. Assumes nothing.
 use Rattle.std.proofs.Common.{◌≡◌, ℕ, suc, ◌+◌, ◌-◌, ◌*◌, ◌/◌, ◌%◌, ◌^◌, ◌<◌, ◌≤◌, sym, ap, ◌∙◌, le_of_lt, mul-le-mul_right, mod-lt, mod-eq_of_lt, mul_comm, add-mul, lt_of_mul-lt-mul_right, mul-le-mul_left, mul-lt-mul_of_pos_right, div-add-mod', div-mul-le_self, le_of_mul-le-mul_right, arith, w64, Fits}
-use native.Mathlib.Nat.{lt-div-mul-add, div-eq_of_lt-le}
-use native.Mathlib.Nat.{mul-add-mod_self_right}
+use native.Mathlib.Nat.{lt-div-mul-add, div-eq_of_lt-le, mul-add-mod_self_right}
 use native.Mathlib.Decide.{dec_le}
 use Rattle.words.proofs.Products.{sort}
 

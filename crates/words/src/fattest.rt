@@ -8,6 +8,6 @@ pub fn fattest(a: u64, b: u64) -> u64
     requires { (a < b) × (b ≤ 64) }
     ensures { Fattest a b result }
 {
-    let k = 63 - u64::leading_zeros(a ^ b);
+    let k = 63 - (a ^ b).leading_zeros();
     b >> k << k
 }

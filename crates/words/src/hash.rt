@@ -6,6 +6,7 @@ ghost use Rattle.words.specs.Inner.{mixed_seed, mixed_hash};
 use crate::product::wrapping_mul;
 
 // SplitMix64's output step.
+#[tactic(auto, unfolding(crate::specs::Mix::mix_of, crate::specs::Mix::xorshift))]
 pub fn mix(z: u64) -> u64
     ensures { result ≡ mix_of z }
 {
@@ -18,14 +19,14 @@ pub fn mix(z: u64) -> u64
 pub fn mix_seed(seed: u64) -> u64
     ensures { result ≡ mixed_seed seed }
 {
-    mix(std::num::wrapping_add_u64(seed, 0x9E37_79B9_7F4A_7C15))
+    mix(seed.wrapping_add(0x9E37_79B9_7F4A_7C15))
 }
 
 // The item and the mixed seed are added with wrap-around, and mixed again.
 pub fn mixed_hash(item: u64, mixed: u64) -> u64
     ensures { result ≡ mixed_hash item mixed }
 {
-    mix(std::num::wrapping_add_u64(item, mixed))
+    mix(item.wrapping_add(mixed))
 }
 
 // The hash of an item under a seed.

@@ -6,11 +6,12 @@ ghost use Rattle.words.specs.Keys.{shared_bits, prefix_item};
 pub fn shared_bits(a: u64, b: u64) -> u32
     ensures { result ≡ shared_bits a b }
 {
-    u64::leading_zeros(a ^ b)
+    (a ^ b).leading_zeros()
 }
 
 // The first l bits of x, then one 1 bit, then zeros. No shift is by 64: the shortest prefix keeps its mark in the
 // highest bit.
+#[tactic(auto, using(crate::proofs::Items::item_shifted))]
 pub fn prefix_item(x: u64, l: u32) -> u64
     requires { l < 64 }
     ensures { result ≡ prefix_item x l }

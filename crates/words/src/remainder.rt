@@ -19,8 +19,8 @@ pub fn remainder(h: u64, m: u64, r: u64) -> u64
     requires { Reciprocal m r × (m ≤ 2 ^ 63) }
     ensures { result ≡ h % m }
 {
-    let less = std::num::wrapping_sub_u64(h - high_product(h, r) * m, m);
-    std::num::wrapping_add_u64(less, (less >> 63) * m)
+    let less = (h - high_product(h, r) * m).wrapping_sub(m);
+    less.wrapping_add((less >> 63) * m)
 }
 
 // x modulo m, where x is small: the low product is the fraction x / m in units of 2^-64, close enough that nothing is

@@ -1,32 +1,35 @@
--- `full::build_maps` meets its contract: what the three maps leave, built one after the other. Assumes nothing.
-use mathlib.Core.Path.{refl, ◌∙◌}
+-- `full::build_maps` meets its contract: what was judged has room for all maps. Assumes nothing.
+use mathlib.Core.Path.{◌≡◌, refl, sym, ap, ◌∙◌}
 use native.Mathlib.Omega.{arith}
-use Rattle.full.proofs.Building.{buildable, storable_table, first_jams, second_jams, third_jams, all_built}
+use Rattle.std.proofs.Common.{ℕ, true, Result, Ok, Err, is_ok}
+use Rattle.call.specs.Inner.{KeysBuilt, PrefixesBuilt}
+use Rattle.full.proofs.Building.{buildable, storable_table, third_jams}
 use Rattle.full.proofs.build_maps.Goals as goal
 
-pub build_keys-one-requires : goal.build_keys-one-requires
-build_keys-one-requires c = buildable c.requires refl refl
+pub build_keys-requires : goal.build_keys-requires
+build_keys-requires c = buildable c.requires refl refl
 
-pub build_prefixes-two-requires : goal.build_prefixes-two-requires
-build_prefixes-two-requires c = buildable c.requires c.build_keys-one.auto.cells c.build_keys-one.auto.work
+pub build_prefixes-requires : goal.build_prefixes-requires
+build_prefixes-requires c = buildable c.requires c.build_keys.auto.cells c.build_keys.auto.work
 
-pub build_stores-three-requires : goal.build_stores-three-requires
-build_stores-three-requires c =
-    storable_table c.requires (c.build_prefixes-two.auto.work ∙ c.build_keys-one.auto.work)
+pub build_stores-requires : goal.build_stores-requires
+build_stores-requires c =
+    rw (c.new-table.ensures.table, c.new-table.ensures.size)
+    (storable_table c.requires (c.build_prefixes.auto.work ∙ c.build_keys.auto.work))
 
-pub returns-then-one-gt0 : goal.returns-then-one-gt0
-returns-then-one-gt0 c = first_jams c.requires c.build_keys-one.ensures c.args.seed2 c.args.seed3 (omega arith)
+ok_told : (r : Result (Unit {0}) ℕ) → is_ok r ≡ true → r ≡ Ok tt
+ok_told (Ok done) e = refl
+ok_told (Err size) e = cc
 
-pub returns-then-two-gt0 : goal.returns-then-two-gt0
-returns-then-two-gt0 c =
-    second_jams c.requires c.build_keys-one.ensures (omega arith) c.build_prefixes-two.ensures c.args.seed3 (omega arith)
-
-pub returns-then-three-gt0 : goal.returns-then-three-gt0
-returns-then-three-gt0 c =
-    third_jams c.requires c.build_keys-one.ensures (omega arith) c.build_prefixes-two.ensures (omega arith)
-    c.build_stores-three.ensures (omega arith)
-
-pub returns : goal.returns
-returns c =
-    all_built c.requires c.build_keys-one.ensures (omega arith) c.build_prefixes-two.ensures (omega arith)
-    c.build_stores-three.ensures (omega arith)
+pub returns-in_err-map_err-3 : goal.returns-in_err-map_err-3
+returns-in_err-map_err-3 c =
+    let a = c.args in
+    let one = ok_told c.build_keys.result (sym c.map_err.ensures.variant ∙ ap is_ok c.in_ok-map_err.was) in
+    let two = ok_told c.build_prefixes.result (sym c.map_err-2.ensures.variant ∙ ap is_ok c.in_ok-map_err-2.was) in
+    let k = c.build_keys.new in
+    let p = c.build_prefixes.new in
+    let B₁ : KeysBuilt a.rows.now.keys.now a.rows.now.b a.seed1 a.cells.now a.work.now (Ok tt) k.cells k.work =
+    rw one at c.build_keys.ensures in
+    let B₂ : PrefixesBuilt a.rows.now.keys.now a.rows.now.b a.seed2 k.cells k.work (Ok tt) p.cells p.work =
+    rw two at c.build_prefixes.ensures in
+    grind (arith, third_jams)

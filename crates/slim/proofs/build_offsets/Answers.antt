@@ -4,8 +4,7 @@ use Rattle.slim.proofs.build_offsets.Goals as goal
 
 pub build-requires : goal.build-requires
 unfolding items_of
-build-requires c =
-    let P = c.requires in (record { source = P.0 }, P.1)
+build-requires c = c.requires.1
 
 pub returns : goal.returns
 unfolding items_of values_of

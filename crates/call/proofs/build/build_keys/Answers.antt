@@ -6,8 +6,7 @@ use Rattle.call.proofs.build.build_keys.Goals as goal
 pub build-requires : goal.build-requires
 unfolding items_of
 build-requires c =
-    let P = c.requires in
-    (record { source = P.sorted }, record { for_cells = omega (arith, P.cells_long); for_work = P.work_long })
+    let P = c.requires in record { for_cells = omega (arith, P.cells_long); for_work = P.work_long }
 
 pub returns : goal.returns
 unfolding items_of values_of

@@ -5,15 +5,8 @@ use Rattle.call.proofs.build.build_prefixes.Goals as goal
 
 pub build-requires : goal.build-requires
 unfolding items_of
-build-requires c =
-    let n = c.before.before.before.before in
-    let s = n.before.before.before.before in
-    (record { source = s.requires.sorted }, prefix_room s.requires n.cell_count-c.ensures.0)
+build-requires c = prefix_room c.requires c.cell_count-c.ensures.0
 
 pub returns : goal.returns
 unfolding items_of values_of
-returns c =
-    let l = c.before.before.before.before in
-    let n = l.before.before.before.before.before in
-    let s = n.before.before.before.before in
-    prefixes_built s.requires n.cell_count-c.ensures.0 l.build.ensures
+returns c = prefixes_built c.requires c.cell_count-c.ensures.0 c.build.ensures

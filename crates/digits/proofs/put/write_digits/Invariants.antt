@@ -1,4 +1,3 @@
-use Prim.Native.Nat.{◌≤◌}
 use mathlib.Core.Path.{◌≡◌}
 use lib.ListN.{length}
 use Rattle.digits.specs.Texts.{placed}
@@ -7,8 +6,5 @@ use Rattle.digits.proofs.put.write_digits.Given as goal
 
 abbrev pub invariant-loop-j : goal.invariant-loop-j
 invariant-loop-j l =
-    (l.j ≤ l.k) × (length l.out ≡ length l.initial.out) × (placed l.out l.i (digits_in l.base l.j l.w) ≡ placed l.initial.out l.i
+    (length l.out ≡ length l.initial.out) × (placed l.out l.i (digits_in l.base l.j l.w) ≡ placed l.initial.out l.i
     (digits_in l.base l.k l.v))
-
-abbrev pub decreases-loop-j : goal.decreases-loop-j
-decreases-loop-j l = l.j

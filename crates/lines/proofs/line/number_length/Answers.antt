@@ -4,8 +4,5 @@ use mathlib.Core.Path.{sym}
 use Rattle.digits.proofs.Hexes.{hex_length}
 use Rattle.lines.proofs.line.number_length.Goals as goal
 
-pub returns-in-Decimal : goal.returns-in-Decimal
-returns-in-Decimal c = rw c.in-Decimal.is c.decimal_length.ensures
-
 pub returns-in-Hex : goal.returns-in-Hex
 returns-in-Hex c = rw c.in-Hex.is (sym (hex_length c.args.v), omega arith)

@@ -1,12 +1,9 @@
--- `lines::text::expect` meets its contract. The loop's invariant: every byte passed is the text's. The measure is
--- what is left of it. Assumes nothing.
+-- `lines::text::expect` meets its contract: what `starts_with` says of what follows i. Assumes nothing.
 use native.Mathlib.Omega.{arith}
-use Prim.Native.Nat.{ℕ, ◌+◌}
-use mathlib.Core.Path.{◌≡◌, subst}
-use lib.ListN.{length}
-use borrow.Author.Count.{below_more}
-use Rattle.digits.specs.Texts.{Has}
-use Rattle.digits.proofs.Positions.{from_length, from_at, has_all}
+use mathlib.Core.Path.{refl, sym, ◌∙◌}
+use Rattle.std.proofs.lemmas.Slice.Eq.{starts_is}
+use Rattle.std.proofs.lemmas.List.{take_rest, drop-drop}
+use Rattle.std.proofs.lemmas.Bool.Decides.{Decides-eqb}
 use Rattle.lines.specs.Lines.{Expects}
 use Rattle.lines.proofs.text.expect.Goals as goal
 
@@ -14,28 +11,15 @@ pub returns-then-s-i : goal.returns-then-s-i
 unfolding Expects
 returns-then-s-i c = λ rest f. omega arith
 
-pub returns-then-s-i-2 : goal.returns-then-s-i-2
+pub returns-then-starts_with : goal.returns-then-starts_with
 unfolding Expects
-returns-then-s-i-2 c = λ rest f. omega (arith, from_length _ _ c.before.before.args.t.now rest f)
+returns-then-starts_with c =
+    let s = starts_is Decides-eqb _ c.args.t.now _ c.starts_with.ensures.value in
+    record { from = (omega arith, sym (take_rest c.args.s.now c.args.i) ∙ s.0 c.if-starts_with.true ∙ rw (take_rest, drop-drop)); to = refl }
 
-pub loop-k-init : goal.loop-k-init
-loop-k-init c = (omega arith, λ j l. absurd (omega arith))
-
-pub returns-then-s-i-3 : goal.returns-then-s-i-3
+pub returns-else-starts_with : goal.returns-else-starts_with
 unfolding Expects
-returns-then-s-i-3 c =
+returns-else-starts_with c =
     λ rest f.
-    let l = c.before.before.before.before in
-    c.if-s-i-3.true (from_at _ _ l.before.before.before.args.t.now rest f l.loop-k.k (omega arith))
-
-pub loop-k-preserved : goal.loop-k-preserved
-loop-k-preserved c = (omega arith, below_more _ _ c.before.before.before.before.loop-k.invariant.1 c.if-s-i-3.false)
-
-pub returns : goal.returns
-unfolding Expects
-returns c =
-    let a = c.before.before.before.before.args in
-    let l = c.before.loop-k in
-    let e : length a.t.now ≡ l.k = omega arith in
-    subst (λ (k : ℕ). Has a.s.now a.i a.t.now (a.i + k)) e
-    (has_all a.s.now a.t.now a.i (omega arith) (λ k h. l.invariant.1 k (omega arith)))
+    let s = starts_is Decides-eqb _ c.args.t.now _ c.starts_with.ensures.value in
+    let e = s.1 rest (take_rest c.args.s.now c.args.i ∙ f.1) in cc

@@ -4,18 +4,9 @@ use Rattle.rowanswer.proofs.run.print_answers.Goals as goal
 
 pub returns-in_default : goal.returns-in_default
 returns-in_default c =
-    let w = c.before.before.before in
-    let s = w.before.before.before.before.before.before.before.before.before.before in
-    head_off s.args.keys.now s.args.asks.now s.args.out.now w.write_head.new.out
-    (rw c.in_default.is at w.write_head.ensures)
+    head_off c.args.indexes.now.keys.now c.args.asks.now c.args.out.now c.write_head.new.out c.in_default.ensures
 
 pub returns : goal.returns
 returns c =
-    let a = c.before.before.before in
-    let i = a.before.before.before in
-    let w = i.before.before.before in
-    let s = w.before.before.before.before.before.before.before.before.before.before in
-    answers_shown s.args.keys.now s.args.asks.now s.args.out.now w.write_head.new.out
-    a.answer_asks.new.out _
-    (rw i.in-At.is at w.write_head.ensures) a.answer_asks.result c.or.result
-    a.answer_asks.ensures c.or.ensures
+    answers_shown c.args.indexes.now.keys.now c.args.asks.now c.args.out.now c.write_head.new.out c.answer_asks.new.out _
+    c.in-Some.ensures c.answer_asks.result c.unwrap_or.result c.answer_asks.ensures c.unwrap_or.ensures

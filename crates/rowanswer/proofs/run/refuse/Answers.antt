@@ -6,7 +6,5 @@ use Rattle.rowanswer.proofs.run.refuse.Goals as goal
 
 pub returns : goal.returns
 returns c =
-    let w = c.before.before.before in
-    let s = w.before.before.before in
-    writes_shown (refused_text (number s.args.refusal)) s.args.out.now w.write_refusal.new.out
-    w.write_refusal.result c.or.result w.write_refusal.ensures c.or.ensures
+    writes_shown (refused_text (number c.args.refusal)) c.args.out.now c.write_refusal.new.out c.write_refusal.result
+    c.unwrap_or.result c.write_refusal.ensures c.unwrap_or.ensures

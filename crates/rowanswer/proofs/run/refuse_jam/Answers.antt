@@ -5,7 +5,5 @@ use Rattle.rowanswer.proofs.run.refuse_jam.Goals as goal
 
 pub returns : goal.returns
 returns c =
-    let w = c.before.before.before in
-    let s = w.before.before.before in
-    writes_shown (jam_text s.args.size) s.args.out.now w.write_jam.new.out w.write_jam.result
-    c.or.result w.write_jam.ensures c.or.ensures
+    writes_shown (jam_text c.args.size) c.args.out.now c.write_jam.new.out c.write_jam.result c.unwrap_or.result
+    c.write_jam.ensures c.unwrap_or.ensures

@@ -2,7 +2,7 @@
 -- 2-fattest number. Assumes nothing.
 use mathlib.Core.Path.{◌∙◌}
 use native.Mathlib.Omega.{arith}
-use Rattle.tables.specs.Delimiters.{delimiters}
+use Rattle.tables.specs.Inner.{listing}
 use Rattle.splits.proofs.Rows.{len_lt}
 use Rattle.splits.proofs.Parents.{parent_shorter}
 use Rattle.splits.proofs.Handles.{handle_by}
@@ -11,7 +11,7 @@ use Rattle.splits.proofs.split.handle_item.Goals as goal
 pub fattest-f-requires : goal.fattest-f-requires
 fattest-f-requires c =
     let s = c.before.before.before.before.before in
-    let T = delimiters s.args.b s.args.keys.now in
+    let T = listing s.args.rows.now in
     let split = s.requires.0.rising.split in
     let table = s.requires.0.rising.table in
     omega (
@@ -27,7 +27,7 @@ prefix_item-requires c =
     omega (
       arith,
       c.fattest-f.ensures.within,
-      len_lt (delimiters s.args.b s.args.keys.now) s.requires.0.rising.table s.args.m split.pos
+      len_lt (listing s.args.rows.now) s.requires.0.rising.table s.args.m split.pos
           split.small,
     )
 
@@ -37,8 +37,8 @@ returns c =
     let split = s.requires.0.rising.split in
     let f = c.fattest-f in
     let F =
-    rw (c.parent_len-q.ensures, c.len_at-l.ensures) at
+    rw (c.from.ensures, c.from-2.ensures, c.parent_len-q.ensures, c.len_at-l.ensures) at
     f.ensures in
-    rw c.delimiter_at.ensures at c.prefix_item.ensures
-    ∙ handle_by (delimiters s.args.b s.args.keys.now) s.requires.0.rising.table s.args.m split.pos
+    rw c.at.ensures at c.prefix_item.ensures
+    ∙ handle_by (listing s.args.rows.now) s.requires.0.rising.table s.args.m split.pos
     split.small s.requires.1 f.result F

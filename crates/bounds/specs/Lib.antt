@@ -1,2 +1,0 @@
--- What only the contracts of inner functions need.
-pub mod Inner

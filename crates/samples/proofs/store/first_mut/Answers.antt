@@ -1,6 +1,0 @@
--- `samples::store::first_mut` is safe: a part of n entries has n entries where the whole has as many. Assumes nothing.
-use Rattle.std.proofs.Common.{arith, length-take}
-use Rattle.samples.proofs.store.first_mut.Goals as goal
-
-pub slice_bounds-result-end : goal.slice_bounds-result-end
-slice_bounds-result-end c = simp length-take (omega arith)

@@ -1,6 +1,0 @@
--- `samples::table::first` is safe: a part of n rows has n rows where the whole has as many. Assumes nothing.
-use Rattle.std.proofs.Common.{arith, length-take}
-use Rattle.samples.proofs.table.first.Goals as goal
-
-pub slice_bounds-result-end : goal.slice_bounds-result-end
-slice_bounds-result-end c = simp length-take (omega arith)
