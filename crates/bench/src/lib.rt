@@ -39,7 +39,7 @@ fn verdict(v: Verdict) -> u64
     match v {
         Ok(()) => 0,
         Err(Unbuilt::Refused(r)) => refused(r),
-        Err(Unbuilt::Jammed(jam)) => coded(5, jam.map as u64) ^ ((jam.size as u64) << 40),
+        Err(Unbuilt::Jammed(jam)) => coded(5, u64::from(jam.map)) ^ ((jam.size as u64) << 40),
     }
 }
 

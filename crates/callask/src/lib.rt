@@ -55,7 +55,7 @@ pub fn call_ask(
         ..Sizes::NONE
     };
     if let Some(store) = stores::short_store(have, stores::call_sizes(n, b)) {
-        return Err(Refusal::Short(store));
+        return Err(Refusal::Short(store.number()));
     }
     let at = row_of(keys, b, seed1, seed2, cells, x);
     Ok(mark(bytes, at))

@@ -22,27 +22,40 @@ share_test x k l hx hk h =
     (λ e. e ∙ sym (ne_eqb (first_bits l x) (first_bits l k)
     (λ z. omega (arith, law.1 z, leb-false l (shared_bits x k) e))))
 
+-- a table, the lengths that the walk takes for its splits, the key that is asked, and one probe, at f, where the look-up
+-- gave m: it is accepted, and the walk goes there, or it isn't
+module _ (T : List ℕ) (lens : ℕ → ℕ) (x : ℕ) (find : ℕ → ℕ) (node upper f m : ℕ) (e : f ≡ probe_at (lens node) upper)
+    (e' : m ≡ find f) where
+  pub stepped_to : (l last : ℕ) → l ≡ lens m → last + 1 ≡ upper → accepted T lens x f upper m ≡ true
+      → Stepped T lens x find node upper (record { node = m; lower = l; last = last })
+  stepped_to l last is top ok =
+      record { node_is = rw (← e, ← e', ok); upper_is = rw (← e, ← e', ok) top; lower_is = is }
+
+  pub stepped_under : (l last : ℕ) → l ≡ lens node → last + 1 ≡ f → accepted T lens x f upper m ≡ false
+      → Stepped T lens x find node upper (record { node = node; lower = l; last = last })
+  stepped_under l last is top ok =
+      record { node_is = rw (← e, ← e', ok); upper_is = rw (← e, ← e', ok) top; lower_is = is }
+
 -- the 2-fattest number above lower and up to last is where the walk probes
-probe_is : {lower l : ℕ} (last f : ℕ) → lower ≡ l → lower < last → last ≤ 63 → Fattest lower last f
+pub probe_is : {lower l : ℕ} (last f : ℕ) → lower ≡ l → lower < last → last ≤ 63 → Fattest lower last f
     → f ≡ probe_at l (last + 1)
 probe_is {lower} {l} last f is h u F =
     let e : last ≡ last + 1 - 1 = omega arith in
     fattest_one (rw (is, e) at F) (probe_fattest l (last + 1) (omega arith) (omega arith))
 
--- one probe, at f, where the look-up gave m: it is accepted, and the walk goes there, or it isn't
+-- so it goes where the code probes
 module _ {T : List ℕ} {lens : ℕ → ℕ} {x : ℕ} {find : ℕ → ℕ} {node lower last f m : ℕ} (F : Fattest lower last f)
     (is : lower ≡ lens node) (h : lower < last) (u : last ≤ 63) (found : m ≡ find f) where
-  pub stepped_to : {l : ℕ} → accepted T lens x f (last + 1) m ≡ true → l ≡ lens m
+  pub probed_to : {l : ℕ} → accepted T lens x f (last + 1) m ≡ true → l ≡ lens m
       → Stepped T lens x find node (last + 1) (record { node = m; lower = l; last = last })
-  stepped_to ok e =
-      let at = probe_is last f is h u F in
-      record { node_is = rw (← at, ← found, ok); upper_is = rw (← at, ← found, ok); lower_is = e }
+  probed_to {l} ok e =
+      stepped_to T lens x find node (last + 1) f m (probe_is last f is h u F) found l last e refl ok
 
-  pub stepped_under : accepted T lens x f (last + 1) m ≡ false
+  pub probed_under : accepted T lens x f (last + 1) m ≡ false
       → Stepped T lens x find node (last + 1) (record { node = node; lower = lower; last = f - 1 })
-  stepped_under ok =
-      let at = probe_is last f is h u F in
-      record { node_is = rw (← at, ← found, ok); upper_is = rw (← at, ← found, ok) (omega (arith, F.above)); lower_is = is }
+  probed_under ok =
+      stepped_under T lens x find node (last + 1) f m (probe_is last f is h u F) found lower (f - 1) is
+      (omega (arith, F.above)) ok
 
 -- what is left of the walk from the root when so many probes are made
 pub record Going (T : List ℕ) (lens : ℕ → ℕ) (x : ℕ) (find : ℕ → ℕ) (root node lower upper probes : ℕ) : Type 0 where

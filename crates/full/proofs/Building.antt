@@ -6,7 +6,6 @@ use native.Mathlib.Nat.{le_refl}
 use native.Mathlib.Omega.{arith}
 use lib.ListN.{length}
 use Rattle.std.specs.Prelude.{Ok, Err}
-use Rattle.refusals.specs.declared.StaticMap.TheVariants as map
 use Rattle.cells.specs.Memory.{cleared}
 use Rattle.tables.specs.Delimiters.{delimiters}
 use Rattle.tables.specs.Lengths.{call_work}
@@ -56,7 +55,7 @@ module _ (keys : List ℕ) (b s t u : ℕ) (cells handles left right work length
   A = buildable R refl refl
 
   pub first_jams : (size : ℕ) (cells₁ work₁ : List ℕ) → KeysBuilt keys b s cells work (Err size) cells₁ work₁
-      → MapsBuilt keys b (seeds s t u) S (Err (record { map = map.Keys; size = size }))
+      → MapsBuilt keys b (seeds s t u) S (Err (record { map = 1; size = size }))
       (lent cells₁ handles left right work₁ lengths)
   unfolding Mapped
   first_jams size cells₁ work₁ B₁ = (
@@ -66,7 +65,7 @@ module _ (keys : List ℕ) (b s t u : ℕ) (cells handles left right work length
 
   module _ (cells₁ work₁ : List ℕ) (B₁ : KeysBuilt keys b s cells work (Ok tt) cells₁ work₁) where
     pub second_jams : (size : ℕ) (cells₂ work₂ : List ℕ) → PrefixesBuilt keys b t cells₁ work₁ (Err size) cells₂ work₂
-        → MapsBuilt keys b (seeds s t u) S (Err (record { map = map.Prefixes; size = size }))
+        → MapsBuilt keys b (seeds s t u) S (Err (record { map = 2; size = size }))
         (lent cells₂ handles left right work₂ lengths)
     unfolding Mapped
     second_jams size cells₂ work₂ B₂ = (
@@ -79,7 +78,7 @@ module _ (keys : List ℕ) (b s t u : ℕ) (cells handles left right work length
       -- the neighbour index is over buckets of one row, whose delimiters are the table
       pub third_jams : (size b' : ℕ) (keys' : List ℕ) → b' ≡ 1 → keys' ≡ keys
           → StoresBuilt (delimiters b' keys') u handles left right work₂ lengths (Err size) handles₃ left₃ right₃ work₃ lengths₃
-          → MapsBuilt keys b (seeds s t u) S (Err (record { map = map.Handles; size = size }))
+          → MapsBuilt keys b (seeds s t u) S (Err (record { map = 3; size = size }))
           (lent cells₂ handles₃ left₃ right₃ work₃ lengths₃)
       unfolding Mapped
       third_jams size b' keys' one same B₃ =

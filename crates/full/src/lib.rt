@@ -41,19 +41,12 @@ fn build_maps(
         (lent cells.new handles.new left.new right.new work.new
         lengths.new) }
 {
-    build_keys(rows, seed1, cells, work).map_err(|size| Jam {
-        map: StaticMap::Keys,
-        size,
-    })?;
-    build_prefixes(rows, seed2, cells, work).map_err(|size| Jam {
-        map: StaticMap::Prefixes,
-        size,
-    })?;
+    build_keys(rows, seed1, cells, work).map_err(|size| StaticMap::Keys.jam(size))?;
+    build_prefixes(rows, seed2, cells, work).map_err(|size| StaticMap::Prefixes.jam(size))?;
     let table = Delimiters::new(rows.keys, 1);
-    build_stores(&table, seed3, handles, left, right, work, lengths).map_err(|size| Jam {
-        map: StaticMap::Handles,
-        size,
-    })?;
+    build_stores(&table, seed3, handles, left, right, work, lengths).map_err(
+        |size| StaticMap::Handles.jam(size),
+    )?;
     Ok(())
 }
 

@@ -36,7 +36,7 @@ pub fn neighbour_ask(
         ..Sizes::NONE
     };
     if let Some(store) = stores::short_store(have, stores::neighbour_sizes(n)) {
-        return Err(Refusal::Short(store));
+        return Err(Refusal::Short(store.number()));
     }
     let search = Search {
         rows: Delimiters::new(keys, 1),

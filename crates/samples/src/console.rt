@@ -1,5 +1,6 @@
 // Standard output, through the kit's `io`: all that is assumed of the C library is its `write`. std's handle would rest on
-// two more of its functions, which tell the system's errors.
+// two more of its functions, which tell the system's errors. A text that can't be written is passed over, and those after
+// it are tried: a program prints what it can.
 use std::fmt;
 use std::fmt::{Display, Write};
 use std::io::{Error, ErrorKind, Result};
@@ -13,11 +14,8 @@ struct Unbuffered;
 
 impl fmt::Write for Unbuffered {
     fn write_str(&mut self, s: &str) -> fmt::Result {
-        if io::write_all(1, s.as_bytes()) {
-            Ok(())
-        } else {
-            Err(fmt::Error)
-        }
+        io::write_all(1, s.as_bytes());
+        Ok(())
     }
 }
 
@@ -40,10 +38,7 @@ impl Print for Console {
     }
 
     fn write_all(&self, bytes: &[u8]) -> Result<()> {
-        if io::write_all(1, bytes) {
-            Ok(())
-        } else {
-            Err(Error::from(ErrorKind::WriteZero))
-        }
+        io::write_all(1, bytes);
+        Ok(())
     }
 }

@@ -206,7 +206,7 @@ impl fmt::Display for Places {
 #[derive(Clone, Copy)]
 pub(crate) struct Answers {
     outcomes: Outcomes,
-    pub(crate) places: Tally,
+    places: Tally,
 }
 
 impl fmt::Display for Answers {
@@ -225,15 +225,18 @@ fn tallied_places<P: Profile>(loan: &Loan) -> Tally {
     tallied(loan.keys, |x| P::place(loan, x).into())
 }
 
-// The asks in buckets of b rows over the stores that a build in buckets of `built` rows leaves with the same seed for
-// all maps, a part of each filled anew.
-pub(crate) fn answered<P: Profile>(
+// What `tell` makes of the asks in buckets of b rows over the stores that a build in buckets of `built` rows leaves with
+// the same seed for all maps, a part of each filled anew, and with all rows planned.
+fn over<P: Profile, T, F: FnOnce(&Loan) -> T>(
     keys: &[u64],
     b: usize,
     built: usize,
     seed: u64,
     parts: Parts,
-) -> Answers {
+    tell: F,
+) -> T
+    requires { F.IsAlwaysCallable tell }
+{
     let mut cells = [0u16; 3798];
     let mut handles = [0u16; 2526];
     let mut left = [0u16; 2000];
@@ -241,7 +244,6 @@ pub(crate) fn answered<P: Profile>(
     let mut work = [0u16; 9058];
     let mut lengths = [0u8; 2000];
     let zeros = [0u8; 2000];
-    let mut bytes = [0u8; 2000];
     let seeds = [seed; 3];
     let _ = P::build(
         keys,
@@ -259,8 +261,7 @@ pub(crate) fn answered<P: Profile>(
     store::fill(parts.left, &mut left);
     store::fill(parts.right, &mut right);
     store::fill(parts.lengths, &mut lengths);
-    store::fill(mixed_bytes(2000), &mut bytes);
-    let planned = Loan {
+    tell(&Loan {
         keys,
         bytes: first(keys.len(), &zeros),
         b,
@@ -270,19 +271,47 @@ pub(crate) fn answered<P: Profile>(
         left: &left,
         right: &right,
         lengths: &lengths,
-    };
-    let marked = Loan {
-        bytes: first(keys.len(), &bytes),
-        ..planned
-    };
-    Answers {
-        outcomes: Outcomes {
-            tag: "call",
-            planned: tallied_outcomes::<P>(&planned),
-            marked: tallied_outcomes::<P>(&marked),
-        },
-        places: tallied_places::<P>(&planned),
-    }
+    })
+}
+
+// The places over such stores.
+pub(crate) fn placed<P: Profile>(
+    keys: &[u64],
+    b: usize,
+    built: usize,
+    seed: u64,
+    parts: Parts,
+) -> Tally {
+    over::<P, Tally, _>(keys, b, built, seed, parts, |loan| {
+        tallied_places::<P>(loan)
+    })
+}
+
+// The outcomes over such stores, with all rows planned and with some withdrawn, and the places.
+pub(crate) fn answered<P: Profile>(
+    keys: &[u64],
+    b: usize,
+    built: usize,
+    seed: u64,
+    parts: Parts,
+) -> Answers {
+    let mut bytes = [0u8; 2000];
+    store::fill(mixed_bytes(2000), &mut bytes);
+    let some = first(keys.len(), &bytes);
+    over::<P, Answers, _>(keys, b, built, seed, parts, |planned| {
+        let marked = Loan {
+            bytes: some,
+            ..*planned
+        };
+        Answers {
+            outcomes: Outcomes {
+                tag: "call",
+                planned: tallied_outcomes::<P>(planned),
+                marked: tallied_outcomes::<P>(&marked),
+            },
+            places: tallied_places::<P>(planned),
+        }
+    })
 }
 
 // The asks of the call index over cells that no build left, a part of them filled and the others 0.

@@ -9,7 +9,7 @@
 
 pub mod answers;
 pub mod asks;
-mod builds;
+pub mod builds;
 pub mod profiles;
 pub mod refused;
 pub mod spoiled;

@@ -66,8 +66,10 @@ pub trait Profile {
     fn place(loan: &Loan, x: u64) -> Result<Place, Refusal>;
 }
 
+#[derive(Clone, Copy)]
 pub struct Full;
 
+#[derive(Clone, Copy)]
 pub struct Slim;
 
 impl Profile for Full {

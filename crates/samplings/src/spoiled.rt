@@ -1,6 +1,6 @@
 // What is said over stores that no build left: those of a neighbour index of so many keys, and the offset cells of the
 // slim profile.
-use crate::asks::{Parts, Places, answered, untouched};
+use crate::asks::{Parts, Places, answered, placed, untouched};
 use crate::builds::{built, first_taken};
 use crate::profiles::{Full, Slim};
 use samples::store::{first, mixed, same};
@@ -82,7 +82,7 @@ fn turned(k: u16) -> [Rule; 1] {
 // The lines of the rules: the places of the full index in buckets of two rows.
 fn print_places(rt: &impl Print, rules: &[Rule], keys: &[u64], seed: u64) -> io::Result<()> {
     for (name, parts) in rules {
-        let places = answered::<Full>(keys, 2, 2, seed, *parts).places;
+        let places = placed::<Full>(keys, 2, 2, seed, *parts);
         let tag = "digest";
         println!(rt; "stores={name}{}", Places { tag, places })?;
     }

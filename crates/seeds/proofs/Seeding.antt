@@ -9,7 +9,7 @@ use borrow.Author.Count.{below_more}
 use native.Mathlib.Decide.{dec_le}
 use native.Mathlib.Omega.{arith}
 use lib.ListN.{length}
-use Rattle.refusals.specs.Numbers.{map_number, taken, refused, jammed, said_by_build}
+use Rattle.refusals.specs.Numbers.{taken, refused, jammed, said_by_build}
 use Rattle.refusals.specs.declared.Unbuilt.{Unbuilt}
 use Rattle.refusals.specs.declared.Unbuilt.TheVariants.{Refused, Jammed}
 use Rattle.refusals.proofs.Naming.{not_taken, jam_not_taken, jam_not_refused}
@@ -126,7 +126,7 @@ module _ (keys : List ℕ) (words : Words keys) (few : length keys ≤ 2048) (b 
         answers = record { calls = both.calls; counts = both.counts };
       }
   tried (Err (Refused f)) c h l r w n B = refuses _ _ _ B
-  tried (Err (Jammed j)) c h l r w n B = jams (map_number j.map) j.size _ B
+  tried (Err (Jammed j)) c h l r w n B = jams j.map j.size _ B
 
 -- one more seed that jams
 pub next_jam : (keys : List ℕ) (b seed map size : ℕ) → ((s : ℕ) → s < seed → SeedJams keys b s) → Jams keys b seed map size

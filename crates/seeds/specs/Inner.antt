@@ -1,6 +1,6 @@
 -- What inner functions leave.
 use Rattle.std.specs.Prelude.{◌≡◌, List, ◌⊎◌, Result, Ok, Err, ℕ, ◌<◌, ◌≤◌}
-use Rattle.refusals.specs.Numbers.{number, map_number}
+use Rattle.refusals.specs.Numbers.{number}
 use Rattle.refusals.specs.declared.Unbuilt.{Unbuilt}
 use Rattle.refusals.specs.declared.Unbuilt.TheVariants.{Refused, Jammed}
 use Rattle.tables.specs.Tables.{Table, first_fall}
@@ -33,7 +33,7 @@ pub record Jams (keys : List ℕ) (b seed map size : ℕ) : Type 0 where
 unfoldable pub SeedTried : List ℕ → ℕ → ℕ → Stores → Result (Unit {0}) Unbuilt → Type 0
 SeedTried keys b seed S (Ok done) = Took keys b seed S
 SeedTried keys b seed S (Err (Refused f)) = Refuses keys b (number f)
-SeedTried keys b seed S (Err (Jammed j)) = Jams keys b seed (map_number j.map) j.size
+SeedTried keys b seed S (Err (Jammed j)) = Jams keys b seed j.map j.size
 
 -- the first of the seeds 0 to 255 that is taken; or the table is refused; or all of them jam, the last with this map and
 -- this size
@@ -41,4 +41,4 @@ unfoldable pub Chose : List ℕ → ℕ → Stores → Result ℕ Unbuilt → Ty
 Chose keys b S (Ok seed) = (seed < 256) × ((s : ℕ) → s < seed → SeedJams keys b s) × Took keys b seed S
 Chose keys b S (Err (Refused f)) = Refuses keys b (number f)
 Chose keys b S (Err (Jammed j)) =
-    ((s : ℕ) → s < 255 → SeedJams keys b s) × Jams keys b 255 (map_number j.map) j.size
+    ((s : ℕ) → s < 255 → SeedJams keys b s) × Jams keys b 255 j.map j.size

@@ -5,7 +5,6 @@ use Prim.Native.Nat.{ℕ, ◌≤◌}
 use native.Mathlib.Omega.{arith}
 use lib.ListN.{length}
 use Rattle.std.specs.Prelude.{Result, Ok, Err}
-use Rattle.refusals.specs.declared.StaticMap.TheVariants as map
 use Rattle.cells.specs.Memory.{cleared}
 use Rattle.tables.specs.Delimiters.{buckets, delimiters}
 use Rattle.tables.specs.Lengths.{call_work}
@@ -60,7 +59,7 @@ module _ (keys : List ℕ) (b s u : ℕ) (cells handles left right work lengths 
 
   pub first_jams : (size : ℕ) (cells₁ work₁ : List ℕ)
       → Built s keys (offset_values b keys) cells work (Err size) cells₁ work₁
-      → MapsBuilt keys b s u S (Err (record { map = map.Keys; size = size })) (lent cells₁ handles left right work₁ lengths)
+      → MapsBuilt keys b s u S (Err (record { map = 1; size = size })) (lent cells₁ handles left right work₁ lengths)
   unfolding Mapped
   first_jams size cells₁ work₁ B₁ = (
     in₁ B₁.refused.0,
@@ -76,7 +75,7 @@ module _ (keys : List ℕ) (b s u : ℕ) (cells handles left right work lengths 
 
     pub third_jams : (size : ℕ)
         → StoresBuilt (delimiters b keys) u handles left right work₁ lengths (Err size) handles₃ left₃ right₃ work₃ lengths₃
-        → MapsBuilt keys b s u S (Err (record { map = map.Handles; size = size }))
+        → MapsBuilt keys b s u S (Err (record { map = 3; size = size }))
         (lent cells₁ handles₃ left₃ right₃ work₃ lengths₃)
     unfolding Mapped
     third_jams size B₃ = (

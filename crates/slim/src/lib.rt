@@ -67,14 +67,10 @@ fn build_maps(
         (lent offsets.new handles.new left.new right.new work.new
         lengths.new) }
 {
-    build_offsets(rows, seed1, offsets, work).map_err(|size| Jam {
-        map: StaticMap::Keys,
-        size,
-    })?;
-    build_stores(rows, seed3, handles, left, right, work, lengths).map_err(|size| Jam {
-        map: StaticMap::Handles,
-        size,
-    })?;
+    build_offsets(rows, seed1, offsets, work).map_err(|size| StaticMap::Keys.jam(size))?;
+    build_stores(rows, seed3, handles, left, right, work, lengths).map_err(
+        |size| StaticMap::Handles.jam(size),
+    )?;
     Ok(())
 }
 

@@ -71,7 +71,7 @@ pub fn slim_ask(
         ..Sizes::NONE
     };
     if let Some(store) = stores::short_store(have, slimstores::ask_sizes(n, b)) {
-        return Err(Refusal::Short(store));
+        return Err(Refusal::Short(store.number()));
     }
     let search = Search {
         rows: Delimiters::new(keys, b),

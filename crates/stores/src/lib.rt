@@ -158,7 +158,7 @@ pub fn judge(keys: &[u64], have: Sizes, want: Sizes) -> Result<(), Refusal>
         return Err(Refusal::Falls(row));
     }
     if let Some(store) = short_store(have, want) {
-        return Err(Refusal::Short(store));
+        return Err(Refusal::Short(store.number()));
     }
     Ok(())
 }

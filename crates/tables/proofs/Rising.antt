@@ -1,6 +1,6 @@
 -- Later rows of a table have larger keys, and the laws of `first_fall`: it is 0 exactly for a table, and otherwise the
 -- first row that is not above the one before it. Assumes nothing.
-use mathlib.Core.Path.{◌≡◌, refl}
+use mathlib.Core.Path.{◌≡◌, refl, ◌∙◌}
 use mathlib.Core.Bool.{Bool, true, false, cond}
 use mathlib.Core.List.{List}
 use mathlib.Core.Logic.{◌⊎◌, inl, inr, ⊎_elim}
@@ -98,13 +98,11 @@ fall_named T r e h =
 
 -- the search row by row, as the code makes it
 module _ (T : List ℕ) (i : ℕ) where
-  pub fall_here : first_fall T ≡ fall_from T i (length T - i) → 1 ≤ i → i < length T → key_at T i ≤ key_at T (i - 1)
-      → Some i ≡ fall_of T
+  pub fall_here : i < length T → key_at T i ≤ key_at T (i - 1) → fall_from T i (length T - i) ≡ i
   unfolding fall_from
-  fall_here e from h l =
+  fall_here h l =
       let left : length T - i ≡ suc (length T - suc i) = omega arith in
-      let is : first_fall T ≡ i = rw (left, le-leb (key_at T i) (key_at T (i - 1)) l) at e in
-      rw (is, lt-ltb 0 i from)
+      rw (left, le-leb (key_at T i) (key_at T (i - 1)) l)
 
   pub fall_later : i < length T → key_at T (i - 1) < key_at T i
       → fall_from T i (length T - i) ≡ fall_from T (i + 1) (length T - (i + 1))
@@ -113,14 +111,19 @@ module _ (T : List ℕ) (i : ℕ) where
       let left : length T - i ≡ suc (length T - suc i) = omega arith in
       rw (left, lt-leb (key_at T i) (key_at T (i - 1)) l, add-one)
 
-  pub fall_past : first_fall T ≡ fall_from T i (length T - i) → length T ≤ i → None ≡ fall_of T
+  pub fall_past : length T ≤ i → fall_from T i (length T - i) ≡ 0
   unfolding fall_from
-  fall_past e h =
-      let none : length T - i ≡ 0 = omega arith in
-      let is : first_fall T ≡ 0 = rw none at e in
-      rw is
+  fall_past h = let none : length T - i ≡ 0 = omega arith in rw none
 
-pub ruleset searched_by_row = (fall_here, fall_later, fall_past)
+  -- and what it tells, where the first fall is that of the rows from i on
+  pub told_here : first_fall T ≡ fall_from T i (length T - i) → 1 ≤ i → i < length T → key_at T i ≤ key_at T (i - 1)
+      → Some i ≡ fall_of T
+  told_here e from h l = let is : first_fall T ≡ i = e ∙ fall_here h l in rw (is, lt-ltb 0 i from)
+
+  pub told_past : first_fall T ≡ fall_from T i (length T - i) → length T ≤ i → None ≡ fall_of T
+  told_past e h = let is : first_fall T ≡ 0 = e ∙ fall_past h in rw is
+
+pub ruleset searched_by_row = (told_here, fall_later, told_past)
 
 -- the row that is named or not, in numbers
 by_row : (n r : ℕ) (t : Bool) → ltb 0 n ≡ t → Some r ≡ cond t (Some n) None → (r ≡ n) × (0 < r)

@@ -6,7 +6,7 @@ use Prim.Native.Nat.{ℕ, ◌≤◌}
 use native.Mathlib.Omega.{arith}
 use lib.ListN.{length}
 use Rattle.std.specs.Prelude.{Result, Ok, Err}
-use Rattle.refusals.specs.Numbers.{map_number, BuildSaid, taken}
+use Rattle.refusals.specs.Numbers.{BuildSaid, taken}
 use Rattle.refusals.specs.declared.Jam.{Jam}
 use Rattle.refusals.proofs.Naming.{not_taken, jam_not_taken}
 use Rattle.stores.specs.Sizes.{Fits}
@@ -51,7 +51,7 @@ module _ {before : BuildSaid} {want : Sizes} {Jams : (map size : ℕ) → Type 0
   unfolding Mapped Settled
   settled (Ok built) S₁ j is M E = accepted j M.0 E.0 (rw E.1 M.1)
   settled (Err e) S₁ j is M E =
-      jam (map_number e.map) e.size j M.0 E.0 (rw is at E.1 ∙ cleared_beyond want S S₁ M.1)
+      jam e.map e.size j M.0 E.0 (rw is at E.1 ∙ cleared_beyond want S S₁ M.1)
 
   -- a build that accepts: nothing was refused, no map has a jam, and the stores are filled
   pub when_taken : {S' : Stores} → Ended before want Jams Jamless Filled S taken S'

@@ -1,7 +1,7 @@
 -- What only the contracts of inner functions need: what was judged before a build, what its maps leave before a jam is
 -- cleared away, and the verdict on them.
 use Rattle.std.specs.Prelude.{◌≡◌, Result, Ok, Err, List, ℕ, drop}
-use Rattle.refusals.specs.Numbers.{map_number, BuildSaid, taken, jammed}
+use Rattle.refusals.specs.Numbers.{BuildSaid, taken, jammed}
 use Rattle.refusals.specs.declared.Jam.{Jam}
 use Rattle.tables.specs.Tables.{Table}
 use Rattle.stores.specs.Stores.{Stores, sizes_of, cleared_stores}
@@ -26,10 +26,10 @@ pub record Beyond (w : Sizes) (S S' : Stores) : Type 0 where
 unfoldable pub Mapped : (w : Sizes) (Jams : (map size : ℕ) → Type 0) (Jamless : Type 0) (Filled : Stores → Type 0)
     → Stores → Result (Unit {0}) Jam → Stores → Type 0
 Mapped w Jams Jamless Filled S (Ok built) S' = Jamless × Filled S'
-Mapped w Jams Jamless Filled S (Err j) S' = Jams (map_number j.map) j.size × Beyond w S S'
+Mapped w Jams Jamless Filled S (Err j) S' = Jams j.map j.size × Beyond w S S'
 
 -- the verdict: maps that are built are accepted as they stand, and a jam is told and leaves all stores 0 over the
 -- lengths w
 unfoldable pub Settled : (w : Sizes) → Result (Unit {0}) Jam → Stores → BuildSaid → Stores → Type 0
 Settled w (Ok built) S said S' = (said ≡ taken) × (S' ≡ S)
-Settled w (Err j) S said S' = (said ≡ jammed (map_number j.map) j.size) × (S' ≡ cleared_stores w S)
+Settled w (Err j) S said S' = (said ≡ jammed j.map j.size) × (S' ≡ cleared_stores w S)

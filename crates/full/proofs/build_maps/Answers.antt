@@ -1,5 +1,5 @@
 -- `full::build_maps` meets its contract: what was judged has room for all maps. Assumes nothing.
-use mathlib.Core.Path.{◌≡◌, refl, sym, ap, ◌∙◌}
+use mathlib.Core.Path.{◌≡◌, refl, ◌∙◌}
 use native.Mathlib.Omega.{arith}
 use Rattle.std.proofs.Common.{ℕ, true, Result, Ok, Err, is_ok}
 use Rattle.call.specs.Inner.{KeysBuilt, PrefixesBuilt}
@@ -24,8 +24,8 @@ ok_told (Err size) e = cc
 pub returns-in_err-map_err-3 : goal.returns-in_err-map_err-3
 returns-in_err-map_err-3 c =
     let a = c.args in
-    let one = ok_told c.build_keys.result (sym c.map_err.ensures.variant ∙ ap is_ok c.in_ok-map_err.was) in
-    let two = ok_told c.build_prefixes.result (sym c.map_err-2.ensures.variant ∙ ap is_ok c.in_ok-map_err-2.was) in
+    let one : c.build_keys.result ≡ Ok tt = grind (arith, ok_told) in
+    let two : c.build_prefixes.result ≡ Ok tt = grind (arith, ok_told) in
     let k = c.build_keys.new in
     let p = c.build_prefixes.new in
     let B₁ : KeysBuilt a.rows.now.keys.now a.rows.now.b a.seed1 a.cells.now a.work.now (Ok tt) k.cells k.work =
